@@ -1,63 +1,76 @@
-"""What the parts of a session have in common: the debugger, its threads, the program, and the editor, which is told what happens."""
+"""What the parts of a session have in common: the debugger, its threads, the program, and the editor."""
 
-import functools
 import time
 
-from rvdbg_dap.mi import Refused
+from rvdbg_dap.mi import Refused, need
 from rvdbg_dap.protocol import Client
 from rvdbg_dap.sources import Sources
 
+# The events that only some editors take, and by which word these say so.
+ASKED = {"memory": "supportsMemoryEvent", "invalidated": "supportsInvalidatedEvent"}
+
 
 class Thread:
-    """A thread: whether it runs, whether it takes a step, whether it is to stop where it is met next, and its trap."""
+    """A thread: `is_wanted` says that it is to stop where it is met next, `trap` at which trap it stands."""
 
     def __init__(self, identity):
-        self.identity, self.is_running, self.is_stepping, self.is_wanted, self.trap = identity, False, False, False, None
+        self.identity, self.trap = identity, None
+        self.is_running = self.is_stepping = self.is_wanted = False
 
 
 class Engine:
-    """The debugger in the middle. `last` is the thread that stopped last, `hears` the kinds of events that only some editors take."""
+    """The debugger in the middle. `last` is the thread that stopped last, `hears` what the editor says of itself."""
 
     def __init__(self, inbox):
-        self.client, self.sources, self.hears = Client(inbox), Sources(), set()
-        self.debugger, self.is_open, self.last, self.program, self.threads, self.after, self.deadline = None, False, None, None, {}, [], 0.0
+        self.client, self.sources, self.hears, self.threads, self.after = Client(inbox), Sources(), {}, {}, []
+        self.launch = self.program = self.debugger = self.last = None
+        self.is_open, self.deadline = False, 0.0
 
     def reply(self, command):
-        """Has the debugger do a line, and gives its result and which threads go on. What else happens meanwhile waits in the inbox."""
-        if not self.is_open:
-            raise Refused("no program is loaded")
+        """Has the debugger do a line, and gives its result and which threads go on. What else happens waits."""
+        need(self.is_open, "no program is loaded")
         result, running = self.debugger.do(command, self.deadline - time.monotonic())
         for identity in running:
             self.thread(identity).is_running = True
         return result, running
 
     def ask(self, command):
-        """Has the debugger do a line, and gives its result where it isn't an error."""
+        """Has the debugger do a line, and gives the fields of its result where it isn't an error."""
         result, _ = self.reply(command)
         if result.name == "error":
-            raise Refused(result.fields.get("msg", result.text), result.fields.get("code"))
-        return result
+            raise Refused(result.fields.get("msg", result.text))
+        return result.fields
 
     def thread(self, identity):
         """The thread of that number."""
-        if identity not in self.threads:
-            raise Refused("there is no thread %.20r" % (identity,))
+        need(identity in self.threads, "there is no thread %.20r", identity)
         return self.threads[identity]
 
     def standing(self):
         """The threads that the editor has seen stop, or that stand from the start."""
         return [it for it in self.threads.values() if not it.is_running]
 
-    def say(self, text, category="console"):
-        """Puts a line where the editor shows output."""
-        self.client.event("output", category=category, output=text + "\n")
+    def event(self, event, **body):
+        """Tells the editor what happens, where it takes that."""
+        if event not in ASKED or self.hears.get(ASKED[event]):
+            self.client.send(type="event", event=event, body=body)
 
     def later(self, event, **body):
-        """Tells an event behind the answer, where the editor takes it."""
-        if event not in ("memory", "invalidated") or event in self.hears:
-            self.after.append(functools.partial(self.client.event, event, **body))
+        """Tells an event behind the answer."""
+        self.after.append(lambda: self.event(event, **body))
+
+    def say(self, text, category="console", **place):
+        """Puts a line where the editor shows output."""
+        self.event("output", category=category, output=text + "\n", **place)
 
     def written(self, address, count):
         """Tells behind the answer that memory was written, of which views are made."""
         self.later("memory", memoryReference="0x%08x" % address, offset=0, count=count)
         self.later("invalidated", areas=["variables"])
+
+
+class Part:
+    """A part of a session. Its `on_..` are the requests that it serves."""
+
+    def __init__(self, engine):
+        self.engine, self.ask, self.say, self.event = engine, engine.ask, engine.say, engine.event

@@ -1,4 +1,4 @@
-"""The arguments of a launch: what they make of the debugger's words, what is wrong with them, and the check of a session's log."""
+"""The arguments of a launch: the debugger's words, what is wrong with them, and the check of a session's log."""
 
 import difflib
 import os
@@ -6,18 +6,19 @@ import re
 import subprocess
 import sys
 
-from rvdbg_dap.mi import Refused
+from rvdbg_dap.mi import need
 
 CLONE = os.path.dirname(os.path.dirname(os.path.dirname(os.path.realpath(__file__))))
 
-# The least and the greatest of each number, and what it is where it isn't given.
-NUMBERS = {"harts": (1, 16, 1), "workers": (0, 16, 0), "budget": (1, 10**12, 10**12), "slots": (0, 512, 16), "slice": (0, 1024, 256)}
+# The least and the greatest of each number, and what isn't left to the debugger where it isn't given.
+NUMBERS = {"harts": (1, 16), "workers": (0, 16), "budget": (1, 10**12), "slots": (0, 512), "slice": (0, 1024)}
+DEFAULTS = {"workers": 0, "budget": 10**12}
 KNOWN = {*NUMBERS, "program", "stopOnEntry", "sourcePath", "rvdbg", "log", "singleThread"}
 # The requests that move one thread alone.
 ALONE = {"never": (), "step": ("step",), "always": ("step", "continue")}
 # What editors put beside them for themselves.
-EDITORS = set("name type request cwd env noDebug presentation preLaunchTask postDebugTask internalConsoleOptions debugServer".split())
-EDITORS |= {"serverReadyAction", "suppressMultipleSessionWarning"}
+EDITORS = set("name type request cwd env noDebug presentation preLaunchTask postDebugTask debugServer".split())
+EDITORS |= {"internalConsoleOptions", "serverReadyAction", "suppressMultipleSessionWarning"}
 LONGEST_CHECK = "10"
 
 
@@ -26,32 +27,27 @@ def full(path):
 
 
 class Launch:
-    """A launch with its arguments looked at, before anything is started or ended. `unknown` has what is to be said of others."""
+    """A launch whose arguments are looked at before anything is started or ended. `unknown` is said of the others."""
 
     def __init__(self, arguments):
-        self.arguments = arguments
-        if not arguments.get("program"):
-            raise Refused("the launch argument `program` is missing: the file that is to be debugged")
-        self.program = full(arguments["program"])
-        if not os.path.isfile(self.program):
-            raise Refused("there is no file %s" % self.program)
+        self.arguments, program, log = arguments, arguments.get("program"), arguments.get("log")
+        need(program, "the launch argument `program` is missing: the file that is to be debugged")
+        self.program, self.log = full(program), full(log) if log else None
+        need(os.path.isfile(self.program), "there is no file %s", self.program)
+        need(self.log != self.program, "the log can't be the program itself")
         self.rvdbg = full(arguments.get("rvdbg") or os.path.join(CLONE, "rvdbg"))
-        if not os.access(self.rvdbg, os.X_OK):
-            raise Refused("%s doesn't start: it isn't there, or no program" % self.rvdbg)
-        self.words = [self.rvdbg]
-        for name, (least, greatest, default) in NUMBERS.items():
-            number = str(arguments.get(name, default))
-            if not re.fullmatch("[0-9]{1,13}", number) or not least <= int(number) <= greatest:
-                raise Refused("%s is a number from %d to %d, not %.50s" % (name, least, greatest, number))
+        need(os.access(self.rvdbg, os.X_OK), "%s doesn't start: it isn't there, or no program", self.rvdbg)
+        given, self.words = dict(DEFAULTS, **arguments), [self.rvdbg]
+        for name in [it for it in NUMBERS if it in given]:
+            (least, greatest), number = NUMBERS[name], str(given[name])
+            is_fine = re.fullmatch("[0-9]{1,13}", number) and least <= int(number) <= greatest
+            need(is_fine, "%s is a number from %d to %d, not %.50s", name, least, greatest, number)
             self.words.append("--%s=%s" % (name, number))
-        self.log, alone = full(arguments["log"]) if arguments.get("log") else None, arguments.get("singleThread", "never")
-        self.words += (["--log"] if self.log else []) + ["--", self.program]
-        if self.log == self.program:
-            raise Refused("the log can't be the program itself")
-        if alone not in ALONE:
-            raise Refused("singleThread is one of %s, not %.50s" % (", ".join(ALONE), alone))
-        folders = arguments.get("sourcePath") or []
-        self.alone, self.folders, self.stops = ALONE[alone], [folders] if isinstance(folders, str) else folders, bool(arguments.get("stopOnEntry"))
+        self.words += ["--log"] * bool(log) + ["--", self.program]
+        alone, folders = arguments.get("singleThread", "never"), arguments.get("sourcePath") or []
+        need(alone in ALONE, "singleThread is one of %s, not %.50s", ", ".join(ALONE), alone)
+        self.alone, self.stops = ALONE[alone], bool(arguments.get("stopOnEntry"))
+        self.folders = [folders] if isinstance(folders, str) else folders
         others = [it for it in arguments if it not in KNOWN | EDITORS and not it.startswith(("__", "dap-"))]
         like = {it: ": is `%s` meant?" % near for it in others for near in difflib.get_close_matches(it, KNOWN, 1)}
         self.unknown = ["there is no launch argument `%s`%s" % (it, like.get(it, "")) for it in others]
@@ -66,10 +62,11 @@ class Launch:
                 file.write(drawn)
         except OSError as error:
             return "%s: %s" % (error.filename, error.strerror)
-        return "%s: %s; its picture is %s" % (self.log, said or "the check takes more than %s s" % LONGEST_CHECK, picture)
+        said = said or "the check takes more than %s s" % LONGEST_CHECK
+        return "%s: %s; its picture is %s" % (self.log, said, picture)
 
     def fed(self, words):
-        """Has a command read the log, and gives what it writes. It isn't to run on for long, nor behind an adapter that is killed."""
+        """Has a command read the log, and gives what it writes: not for long, nor behind an adapter that is killed."""
         with open(self.log, "rb") as log:
             words = ["timeout", "-k", "1", LONGEST_CHECK, *words]
             return subprocess.run(words, stdin=log, stdout=subprocess.PIPE, stderr=subprocess.DEVNULL).stdout

@@ -5,35 +5,37 @@ import collections
 import contextlib
 import json
 import os
-import queue
 import re
 import signal
 import subprocess
 import threading
 import time
+import types
 
 STREAM = re.compile(rb'[@&~]"((?:[^"\\]|\\.)*)"')
 RECORD = re.compile(rb"\d*([\^*=])([A-Za-z0-9_-]+)(?:,|$)")
 TOKEN = re.compile(rb'"((?:[^"\\]|\\.)*)"|([A-Za-z0-9_-]+)=|([{}\[\],])')
 ESCAPE = re.compile(rb"\\([0-7]{1,3}|.)")
 ESCAPED = {b"n": b"\n", b"r": b"\r", b"t": b"\t"}
-PLAIN = re.compile(rb"[ !#-\[\]-~]")
+ODD = re.compile(rb"[^ !#-\[\]-~]")
 
 # A result (`^`), or what happened by itself (`*`, `=`), its class, and its fields as dicts, lists and texts.
 Record = collections.namedtuple("Record", "kind name fields text")
 
 
 class Refused(Exception):
-    """What the debugger or the adapter doesn't do, and why; `code` is the debugger's, where it has one."""
+    """What the debugger or the adapter doesn't do, and why."""
 
-    def __init__(self, text, code=None):
-        super().__init__(text)
-        self.code = code
+
+def need(is_so, text, *words):
+    """Refuses something where what it stands on isn't so."""
+    if not is_so:
+        raise Refused(text % words)
 
 
 def c_string(text):
     """A text as one word of a line."""
-    return '"%s"' % "".join(chr(it) if PLAIN.match(bytes((it,))) else "\\%03o" % it for it in text.encode("utf-8", "surrogateescape"))
+    return '"%s"' % ODD.sub(lambda it: b"\\%03o" % it[0][0], text.encode("utf-8", "surrogateescape")).decode()
 
 
 def bytes_of(text):
@@ -52,42 +54,25 @@ def record(line):
     head = RECORD.match(line)
     if head is None:
         raise ValueError("it is no record")
-    made, brackets, place = ["{"], ["{"], head.end()
+    made, brackets, place = "{", "{", head.end()
     while place < len(line):
         token = TOKEN.match(line, place)
         if token is None:
             raise ValueError("at byte %d" % place)
         place, (text, name, mark) = token.end(), token.groups()
         if text is not None:
-            made.append(json.dumps(bytes_of(text).decode("utf-8", "surrogateescape")))
+            made += json.dumps(bytes_of(text).decode("utf-8", "surrogateescape"))
         elif name is not None:
-            made += ['"%s":' % name.decode()] if brackets[-1:] == ["{"] else []
+            made += '"%s":' % name.decode() if brackets[-1:] == "{" else ""
         else:
-            made.append(mark.decode())
-            brackets = brackets[:-1] if mark in b"}]" else brackets + made[-1:] if mark in b"{[" else brackets
-    return Record(head[1].decode(), head[2].decode(), json.loads("".join(made) + "}"), line.lstrip(b"0123456789").decode("utf-8", "replace"))
+            made += mark.decode()
+            brackets = brackets[:-1] if mark in b"}]" else brackets + made[-1] if mark in b"{[" else brackets
+    kind, name = head[1].decode(), head[2].decode()
+    return Record(kind, name, json.loads(made + "}"), line.lstrip(b"0123456789").decode("utf-8", "replace"))
 
 
-class Answer:
-    """What a line is answered: a result, the threads that go on by it, and the prompt. What happens meanwhile isn't of it."""
-
-    def __init__(self, token):
-        self.token, self.result, self.running, self.is_whole = b"%d^" % token, b"", [], False
-
-    def takes(self, line):
-        """Whether the line is of this answer."""
-        if not self.result:
-            self.result = line if line.startswith((b"^", self.token)) else b""
-            self.is_whole = self.result.lstrip(b"0123456789") == b"^exit"
-            return bool(self.result)
-        self.is_whole = line.rstrip() == b"(gdb)"
-        if line.startswith(b"*running,"):
-            self.running.append(line)
-        return self.is_whole or line.startswith(b"*running,")
-
-
-# What is started isn't to run on for hours where its starter is killed, nor is what it started: this shell is told the group, and
-# ends it where its input ends without one more line. A build gets a few seconds to clear up.
+# What is started isn't to run on for hours where its starter is killed, nor is what it started: this shell is told the
+# group, and ends it where its input ends without one more line. A build gets a few seconds to clear up.
 WATCHER = """
 read -r group || exit
 read -r _ && exit
@@ -98,23 +83,20 @@ kill -s KILL -- "-$group"
 
 
 class Debugger:
-    """The process. A thread reads what it writes: answers are handed to who waits for them, all else goes to the inbox.
-
-    Where there is a `copy`, a binary file, it gets all that was written, and is closed behind it. A session's log is in it alone.
-    """
+    """The process. Answers go to who waits for them, all else to the inbox, and all of it to the file `copy`."""
 
     def __init__(self, words, inbox, copy=None):
-        pipes = dict(stdin=subprocess.PIPE, stdout=subprocess.PIPE, stderr=subprocess.PIPE, bufsize=0, start_new_session=True)
-        self.watcher = subprocess.Popen(["/bin/sh", "-c", WATCHER], **dict(pipes, stdout=subprocess.DEVNULL, stderr=subprocess.DEVNULL))
-        self.process = subprocess.Popen(words, **pipes)
+        pipe, null, how = subprocess.PIPE, subprocess.DEVNULL, dict(bufsize=0, start_new_session=True)
+        self.watcher = subprocess.Popen(["/bin/sh", "-c", WATCHER], stdin=pipe, stdout=null, stderr=null, **how)
+        self.process = subprocess.Popen(words, stdin=pipe, stdout=pipe, stderr=pipe, **how)
         os.write(self.watcher.stdin.fileno(), b"%d\n" % self.process.pid)
-        self.inbox, self.answers, self.waiting, self.token, self.is_closing, self.copy = inbox, queue.Queue(), None, 0, False, copy
+        self.inbox, self.copy, self.waiting, self.token = inbox, copy, None, 0
+        self.has_ended = self.is_closing = False
         self.decode = codecs.getincrementaldecoder("utf-8")("replace").decode
-        self.errors, self.lines = (
-            threading.Thread(target=self.read, args=it, daemon=True) for it in ((self.process.stderr, "said"), (self.process.stdout, "lines"))
-        )
-        self.errors.start()
-        self.lines.start()
+        self.errors = threading.Thread(target=self.read, args=(self.process.stderr, "said"), daemon=True)
+        self.lines = threading.Thread(target=self.read, args=(self.process.stdout, "lines"), daemon=True)
+        for it in (self.errors, self.lines):
+            it.start()
 
     def read(self, pipe, kind):
         """Reads lines to the end. Where the inbox is full it waits, but not while an answer is waited for."""
@@ -125,38 +107,40 @@ class Debugger:
                 with contextlib.suppress(OSError):
                     self.copy.write(piece) if piece else self.copy.close()
             *lines, rest = (rest + (piece or b"\n")).split(b"\n")
-            self.inbox.put((self, kind, [line for line in lines if line and line[:1] != b"#" and not self.answered(line)]))
+            self.inbox.put((self, kind, [it for it in lines if it and it[:1] != b"#" and not self.answered(it)]))
             while self.inbox.qsize() > 16 and self.waiting is None and not self.is_closing:
                 time.sleep(0.002)
         if kind == "lines":
             self.errors.join(1.0)
             self.inbox.put((self, "ended"))
-            self.answers.put(None)
+            self.has_ended, waiting = True, self.waiting
+            if waiting:
+                waiting.over.set()
 
     def answered(self, line):
-        """Hands on a line of the answer that is waited for, and says whether it is one."""
-        waiting = self.waiting
-        is_taken = waiting is not None and waiting.takes(line)
-        if is_taken and waiting.is_whole:
+        """Keeps a line of the answer that is waited for: its result, which threads go on by it, and the prompt."""
+        answer = self.waiting
+        if answer is None or not line.startswith((b"*running,", b"(gdb)") if answer.lines else (b"^", answer.token)):
+            return False
+        answer.lines.append(line)
+        if line.startswith(b"(gdb)") or line.lstrip(b"0123456789") == b"^exit":
             self.waiting = None
-            self.answers.put(waiting)
-        return is_taken
+            answer.over.set()
+        return True
 
     def do(self, command, seconds):
         """Does a line, and gives its result and the numbers of the threads that go on by it."""
         self.token += 1
-        self.waiting = answer = Answer(self.token)
+        answer = types.SimpleNamespace(token=b"%d^" % self.token, lines=[], over=threading.Event())
+        self.waiting = answer
         try:
-            os.write(self.process.stdin.fileno(), b"%d%s\n" % (self.token, command.encode("utf-8", "surrogateescape")))
-            found = self.answers.get(timeout=max(0.0, seconds))
-            while found not in (answer, None):
-                found = self.answers.get(timeout=max(0.0, seconds))
-            if found is None:
-                self.answers.put(None)
-                raise Refused("the debugger has ended")
-            return record(answer.result), [int(record(line).fields["thread-id"]) for line in answer.running]
-        except queue.Empty:
-            raise Refused("%.100s: the debugger doesn't answer in time" % command) from None
+            line = b"%d%s\n" % (self.token, command.encode("utf-8", "surrogateescape"))
+            os.write(self.process.stdin.fileno(), line)
+            is_over = self.has_ended or answer.over.wait(seconds)
+            need(is_over, "%.100s: the debugger doesn't answer in time", command)
+            need(self.waiting is None, "the debugger has ended")
+            running = [record(it).fields for it in answer.lines if it.startswith(b"*running,")]
+            return record(answer.lines[0]), [int(it["thread-id"]) for it in running]
         except (OSError, ValueError, KeyError) as error:
             raise Refused("%.100s: the debugger's answer isn't understood (%s)" % (command, error)) from error
         finally:
@@ -168,7 +152,7 @@ class Debugger:
             return self.process.wait(seconds)
 
     def stop(self, is_asked, seconds=1.0):
-        """Ends the process and what it started: by its own command where it listens to that, within so many seconds, else by signals."""
+        """Ends the process and what it started: by its own command where it listens in time, else by signals."""
         self.is_closing = True
         with contextlib.suppress(OSError, ValueError):
             os.write(self.process.stdin.fileno(), b"-gdb-exit\n" if is_asked else b"")

@@ -1,5 +1,6 @@
 """The editor's side: messages of the Debug Adapter Protocol, each a header with a length and then a JSON object."""
 
+import contextlib
 import json
 import os
 import re
@@ -11,16 +12,6 @@ IDLE = re.compile(rb"(?:\s|[A-Za-z-]+:[^\r\n]*\r?\n)*")
 LONGEST, LONGEST_HEADERS = 1 << 24, 1 << 16
 
 
-def decoded(rest):
-    """The JSON object that the bytes begin with and how many of them it has; None and 0 where there is none."""
-    text = rest.decode("utf-8", "surrogateescape")
-    try:
-        value, end = json.JSONDecoder().raw_decode(text)
-    except (ValueError, RecursionError):
-        return None, 0
-    return (value, len(text[:end].encode("utf-8", "surrogateescape"))) if isinstance(value, dict) else (None, 0)
-
-
 class Framing:
     """Cuts the editor's bytes into messages. What is none is told and passed over, up to the next header."""
 
@@ -28,36 +19,34 @@ class Framing:
         self.bytes = bytearray()
 
     def add(self, piece):
-        """Gives what has come whole: `("message", object)`, or `("bad", text, object or None)`."""
+        """Yields what has come whole: `("message", object)`, or `("bad", text, object or None)`."""
         self.bytes += piece
-        found = []
-        while True:
-            header = HEADER.search(self.bytes)
-            if header is None:
-                self.bytes = self.bytes if len(self.bytes) <= LONGEST_HEADERS else bytearray()
-                return found
-            if not IDLE.fullmatch(self.bytes, 0, header.start()):
-                found.append(("bad", "bytes that are no message were passed over", None))
-                del self.bytes[: header.start()]
-                continue
-            one, used = self.message(header.end(), int(header[1][:12]))
-            del self.bytes[: header.end() + used if one else 0]
+        while header := HEADER.search(self.bytes):
+            begins, one = header.start(), ("bad", "bytes that are no message were passed over", None)
+            if IDLE.fullmatch(self.bytes, 0, begins):
+                one, used = self.message(header.end(), int(header[1][:12]))
+                begins = header.end() + used
             if one is None:
-                return found
-            found.append(one)
+                return
+            del self.bytes[:begins]
+            yield one
+        if len(self.bytes) > LONGEST_HEADERS:
+            self.bytes.clear()
 
     def message(self, begins, length):
-        """The message that begins there and how many bytes it has, or None while more is to come. A short one may have a wrong length."""
+        """The message there and its bytes, or None while more is to come. The length of a short one may be wrong."""
         came = len(self.bytes) - begins
-        if came >= length:
-            value, used = decoded(self.bytes[begins : begins + length])
-            if value is not None:
-                return ("message", value), used
-        is_whole, is_short = came >= length or length > LONGEST, came <= LONGEST_HEADERS
-        value, used = decoded(self.bytes[begins:]) if is_whole or is_short and self.bytes.rstrip().endswith(b"}") else (None, 0)
-        if value is None:
-            return (("bad", "a message is no JSON object", None) if is_whole else None), 0
-        return (("message", value) if used <= length else ("bad", "a message is longer than its header says", value)), used
+        is_whole = came >= length or length > LONGEST
+        if not is_whole and (came > LONGEST_HEADERS or not self.bytes.rstrip().endswith(b"}")):
+            return None, 0
+        value, text = None, self.bytes[begins:].decode("utf-8", "surrogateescape")
+        with contextlib.suppress(ValueError, RecursionError):
+            value, end = json.JSONDecoder().raw_decode(text)
+        if not isinstance(value, dict):
+            return ("bad", "a message is no JSON object", None) if is_whole else None, 0
+        used = len(text[:end].encode("utf-8", "surrogateescape"))
+        is_fine = used <= length
+        return ("message", value) if is_fine else ("bad", "a message is longer than its header says", value), used
 
 
 class Client:
@@ -72,30 +61,25 @@ class Client:
         framing, piece = Framing(), b" "
         while piece:
             piece = os.read(self.reads, 65536)
-            for item in framing.add(piece) + ([] if piece else [("gone",)]):
+            for item in framing.add(piece):
                 self.inbox.put((self, *item))
             while self.inbox.qsize() > 256:
                 time.sleep(0.01)
+        self.inbox.put((self, "gone"))
 
     def send(self, **message):
         self.seq += 1
-        body = json.dumps(dict(seq=self.seq, **message))
-        if "\\ud" in body:
-            # Half a surrogate stands for a byte of a name that isn't UTF-8. It isn't JSON to every editor.
-            body = json.dumps(json.loads(json.dumps(json.loads(body), ensure_ascii=False).encode("utf-8", "replace")))
-        body = body.encode()
+        # Half a surrogate, which stands for a byte that isn't UTF-8, isn't JSON to every editor, and is replaced.
+        text = json.dumps(dict(seq=self.seq, **message), ensure_ascii=False).encode("utf-8", "replace")
+        body = json.dumps(json.loads(text)).encode()
         whole = b"Content-Length: %d\r\n\r\n%s" % (len(body), body)
         while whole:
             whole = whole[os.write(self.writes, whole) :]
-
-    def event(self, event, **body):
-        self.send(type="event", event=event, body=body)
 
     def answer(self, request, body=None, error=None):
         """Answers a request, by a body or by what is wrong."""
         message = dict(type="response", request_seq=request["seq"], command=request["command"], success=error is None)
         if error is not None:
-            message.update(message=error, body={"error": {"id": 1, "format": error.replace("{", "").replace("}", ""), "showUser": True}})
-        elif body is not None:
-            message["body"] = body
-        self.send(**message)
+            body = {"error": {"id": 1, "format": re.sub("[{}]", "", error), "showUser": True}}
+            message["message"] = error
+        self.send(**message, **({} if body is None else {"body": body}))

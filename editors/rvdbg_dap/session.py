@@ -1,4 +1,4 @@
-"""A session: what the editor asks for is done by lines to the debugger, and what happens there is told to the editor."""
+"""A session: what the editor asks for is done by lines to the debugger, and what happens there is told."""
 
 import itertools
 import queue
@@ -8,10 +8,10 @@ import sys
 import time
 
 from rvdbg_dap.breakpoints import Breakpoints
-from rvdbg_dap.engine import Engine, Thread
+from rvdbg_dap.engine import Engine, Part, Thread
 from rvdbg_dap.launch import Launch
 from rvdbg_dap.memory import Memory
-from rvdbg_dap.mi import Debugger, Refused, record, stream
+from rvdbg_dap.mi import Debugger, Refused, need, record, stream
 from rvdbg_dap.program import Program, advice
 from rvdbg_dap.threads import Threads
 from rvdbg_dap.values import Values
@@ -27,29 +27,30 @@ STATUSES = {
     7: "memory ran out",
 }
 CAPABILITIES = (
-    "ConfigurationDoneRequest FunctionBreakpoints ConditionalBreakpoints HitConditionalBreakpoints LogPoints DataBreakpoints "
-    "DataBreakpointBytes InstructionBreakpoints EvaluateForHovers SetVariable SetExpression ExceptionInfoRequest RestartRequest TerminateRequest "
-    "DelayedStackTraceLoading ReadMemoryRequest WriteMemoryRequest DisassembleRequest SteppingGranularity SingleThreadExecutionRequests"
+    "ConfigurationDoneRequest FunctionBreakpoints ConditionalBreakpoints HitConditionalBreakpoints LogPoints "
+    "DataBreakpoints DataBreakpointBytes InstructionBreakpoints EvaluateForHovers SetVariable SetExpression "
+    "ExceptionInfoRequest RestartRequest TerminateRequest DelayedStackTraceLoading ReadMemoryRequest "
+    "WriteMemoryRequest DisassembleRequest SteppingGranularity SingleThreadExecutionRequests"
 )
 BUILT = re.compile(r"rvdbg: (?:proving and building|\S+, (\d+) of (\d+))")
 
 
-class Session:
-    """What an editor and a debugger have in common. `on_..` are the editor's requests, `take_..` what comes otherwise."""
+class Session(Part):
+    """What an editor and a debugger have in common. `on_..` are the editor's requests, `take_..` what else comes."""
 
     def __init__(self, inbox):
-        self.inbox, self.engine = inbox, Engine(inbox)
-        self.client, self.say = self.engine.client, self.engine.say
+        super().__init__(Engine(inbox))
+        self.inbox, self.client = inbox, self.engine.client
+        self.request = self.opening = self.progress = None
         self.breakpoints, values, memory = Breakpoints(self.engine), Values(self.engine), Memory(self.engine)
         self.threads = Threads(self.engine, self.breakpoints, values, memory)
         self.parts = (self, self.threads, values, memory, self.breakpoints)
-        self.is_done, self.request, self.opening, self.launch = False, None, None, None
         self.forget()
 
     def forget(self):
         """What is of one debugger alone."""
-        self.is_configured, self.is_over, self.said, self.progress = False, False, "", None
-        self.engine.debugger, self.engine.is_open, self.engine.last = None, False, None
+        self.is_configured = self.is_over = self.is_done = self.engine.is_open = False
+        self.engine.debugger, self.engine.last, self.said = None, None, ""
 
     def run(self):
         """Does what comes, in its order, until the editor goes."""
@@ -62,19 +63,15 @@ class Session:
             except Refused as refusal:
                 self.say(str(refusal))
 
-    # What the editor says.
-
     def take_message(self, message):
         """Does a request, and answers it. What it brings about is told behind the answer."""
         command, self.request, self.engine.after = message.get("command"), message, []
         if message.get("type") != "request" or not isinstance(command, str) or type(message.get("seq")) is not int:
-            self.say("a message is no request: %.200s" % message)
-            return
+            return self.say("a message is no request: %.200s" % message)
         name = "on_" + re.sub("([A-Z])", lambda it: "_" + it[1].lower(), command)
         part = next((it for it in self.parts if hasattr(it, name)), None)
         try:
-            if part is None:
-                raise Refused("the request %.100s isn't served" % command)
+            need(part, "the request %.100s isn't served", command)
             body = getattr(part, name)(dict(message.get("arguments") or {}))
             if body is not LATER:
                 self.client.answer(message, body)
@@ -95,33 +92,32 @@ class Session:
         raise BrokenPipeError
 
     def on_initialize(self, arguments):
-        if arguments.get("linesStartAt1") is False or arguments.get("pathFormat", "path") != "path":
-            raise Refused("lines are counted from 1 here, and files have paths")
-        kinds = {"progress": "ProgressReporting", "memory": "MemoryEvent", "invalidated": "InvalidatedEvent"}
-        self.engine.hears = {it for it, name in kinds.items() if arguments.get("supports" + name)}
+        is_fine = arguments.get("linesStartAt1") is not False and arguments.get("pathFormat", "path") == "path"
+        need(is_fine, "lines are counted from 1 here, and files have paths")
+        self.engine.hears = arguments
         return dict({"supports" + it: True for it in CAPABILITIES.split()}, exceptionBreakpointFilters=[])
 
     def on_launch(self, arguments):
-        if self.engine.debugger:
-            raise Refused("a session is open already")
+        need(not self.engine.debugger, "a session is open already")
         return self.start(Launch(arguments))
 
     def start(self, launch):
         """Starts the debugger of a launch, which is answered once that has accepted the program."""
         for it in launch.unknown:
             self.say(it)
-        self.engine.program, self.threads.alone = Program(launch.program), launch.alone
+        self.engine.program = Program(launch.program)
         self.engine.sources.look_in(self.engine.program, launch.folders)
         try:
-            self.engine.debugger = Debugger(launch.words, self.inbox, open(launch.log, "wb") if launch.log else None)
+            log = open(launch.log, "wb") if launch.log else None
+            self.engine.debugger = Debugger(launch.words, self.inbox, log)
         except OSError as error:
             raise Refused("%s: %s" % (error.filename, error.strerror)) from error
-        self.launch, self.opening = launch, self.request
+        self.engine.launch, self.opening = launch, self.request
         return LATER
 
     def on_restart(self, arguments):
         """A new session with the same breakpoints. One that can't begin leaves the old one as it is."""
-        launch = Launch(arguments.get("arguments") or self.launch.arguments)
+        launch = Launch(arguments.get("arguments") or self.engine.launch.arguments)
         self.close("the session begins anew")
         self.is_configured = True
         try:
@@ -132,20 +128,19 @@ class Session:
 
     def opened(self):
         """The debugger has accepted the program."""
-        request, self.opening, self.engine.is_open = self.opening, None, True
-        self.end_progress()
-        self.client.answer(request)
+        is_first, self.engine.is_open = self.opening["command"] == "launch", True
+        self.answer_opening()
         for it in self.engine.program.lacks():
             self.say(it)
         self.breakpoints.insert_all()
-        if request["command"] == "launch":
-            self.client.event("initialized")
+        if is_first:
+            self.event("initialized")
         if self.is_configured:
-            self.threads.begin(self.launch.stops)
+            self.threads.begin()
 
     def on_configuration_done(self, _):
         if self.engine.is_open and not self.is_configured:
-            self.engine.after.append(lambda: self.threads.begin(self.launch.stops))
+            self.engine.after.append(self.threads.begin)
         self.is_configured = True
 
     def on_terminate(self, _):
@@ -160,98 +155,90 @@ class Session:
 
     def close(self, why):
         """Ends the debugger, and forgets what was of it."""
-        debugger, is_open = self.engine.debugger, self.engine.is_open
+        debugger, is_open, launch = self.engine.debugger, self.engine.is_open, self.engine.launch
         if debugger:
-            debugger.stop(is_open, LOG_PATIENCE if self.launch.log else 1.0)
-        for identity in list(self.engine.threads):
-            self.leave(identity)
-        self.breakpoints.lose(why)
-        self.end_progress()
+            debugger.stop(is_open, LOG_PATIENCE if launch.log else 1.0)
+        for identity in self.engine.threads:
+            self.event("thread", reason="exited", threadId=identity)
+        self.engine.threads.clear()
+        for it in self.breakpoints.all:
+            it.clear(why)
         self.forget()
-        if is_open and self.launch.log:
-            self.say(self.launch.verdict())
-        if self.opening:
-            request, self.opening = self.opening, None
-            self.client.answer(request, error=why)
+        if is_open and launch.log:
+            self.say(launch.verdict())
+        self.answer_opening(error=why)
 
-    # What the debugger says.
+    def answer_opening(self, **answer):
+        """Answers the request that has begun a session, where that isn't done yet."""
+        if self.progress:
+            self.event("progressEnd", progressId=self.progress)
+        request, self.opening, self.progress = self.opening, None, None
+        if request:
+            self.client.answer(request, **answer)
 
     def take_said(self, lines):
-        """What it says beside its records: how far it is built, or why it isn't."""
-        for line in lines:
-            self.said = line.decode("utf-8", "replace")
+        """What the debugger says beside its records: how far it is built, or why it isn't."""
+        for self.said in [it.decode("utf-8", "replace") for it in lines]:
             self.say(self.said)
             built = BUILT.match(self.said)
-            if built and self.opening and "progress" in self.engine.hears:
+            if built and self.opening and self.engine.hears.get("supportsProgressReporting"):
                 if self.progress is None:
                     self.progress = "build-%d" % self.opening["seq"]
-                    self.client.event("progressStart", progressId=self.progress, title="Building rvdbg", cancellable=False)
+                    self.event("progressStart", progressId=self.progress, title="Building rvdbg", cancellable=False)
                 share = {"percentage": 100 * int(built[1]) // max(1, int(built[2]))} if built[1] else {}
-                self.client.event("progressUpdate", progressId=self.progress, message=self.said, **share)
-
-    def end_progress(self):
-        if self.progress:
-            self.client.event("progressEnd", progressId=self.progress)
-            self.progress = None
+                self.event("progressUpdate", progressId=self.progress, message=self.said, **share)
 
     def take_lines(self, lines):
-        """What happened by itself; what the program wrote is put together."""
+        """What happened by itself, and what the program wrote, which is put together."""
         for is_output, group in itertools.groupby(lines, lambda it: it.startswith(b"@")):
             if is_output:
-                self.client.event("output", category="stdout", output=self.engine.debugger.decode(b"".join(map(stream, group))))
+                output = self.engine.debugger.decode(b"".join(map(stream, group)))
+                self.event("output", category="stdout", output=output)
             for line in group:
-                self.take_line(line)
+                try:
+                    self.take_line(line)
+                except Refused as refusal:
+                    self.say(str(refusal))
+                except MALFORMED as error:
+                    text = line.decode("utf-8", "replace")
+                    self.say("a line of the debugger isn't understood: %.200s (%.200r)" % (text, error))
 
     def take_line(self, line):
         """A record, or a text of the debugger; the first prompt says that it has accepted the program."""
-        try:
-            if line.startswith((b"&", b"~")):
-                self.say(stream(line).decode("utf-8", "replace").rstrip("\n"))
-            elif line.rstrip() != b"(gdb)":
-                self.happened(record(line))
-            elif self.opening:
-                self.opened()
-        except Refused as refusal:
-            self.say(str(refusal))
-        except MALFORMED as error:
-            self.say("a line of the debugger isn't understood: %.200s (%.200r)" % (line.decode("utf-8", "replace"), error))
-
-    def happened(self, told):
-        """Tells the editor what a record says."""
+        if line.startswith((b"&", b"~")):
+            return self.say(stream(line).decode("utf-8", "replace").rstrip("\n"))
+        if line.rstrip() == b"(gdb)":
+            return self.opened() if self.opening else None
+        told = record(line)
         fields = told.fields
         if told.kind == "^" and told.name == "error" and self.opening:
             self.said = fields["msg"]
         elif told.name == "thread-created":
             self.engine.threads[int(fields["id"])] = Thread(int(fields["id"]))
-            self.client.event("thread", reason="started", threadId=int(fields["id"]))
-        elif told.name == "thread-exited":
-            self.leave(int(fields["id"]))
+            self.event("thread", reason="started", threadId=int(fields["id"]))
+        elif told.name == "thread-exited" and self.engine.threads.pop(int(fields["id"]), None):
+            self.event("thread", reason="exited", threadId=int(fields["id"]))
         elif told.name == "stopped" and fields.get("reason", "").startswith("exited"):
-            self.client.event("exited", exitCode=int(fields.get("exit-code", "0"), 8))
-            self.is_over = not self.launch.log
+            self.event("exited", exitCode=int(fields.get("exit-code", "0"), 8))
+            self.is_over = not self.engine.launch.log
             if self.is_over:
-                self.client.event("terminated")
+                self.event("terminated")
             self.engine.debugger.process.stdin.close()
         elif told.name == "stopped":
             self.threads.stopped(self.engine.threads[int(fields["thread-id"])], fields)
-
-    def leave(self, identity):
-        """A thread is gone."""
-        if self.engine.threads.pop(identity, None):
-            self.client.event("thread", reason="exited", threadId=identity)
+        return None
 
     def take_ended(self):
         """The debugger has ended: with the program, with its budget, or because it refused something."""
         is_cut = self.opening["command"] == "restart" if self.opening else not self.is_over
         status = self.engine.debugger.status()
         why = STATUSES.get(status, "the debugger ended with status %s" % status)
-        if not self.engine.is_open and self.said:
-            why = advice(self.said)
+        why = advice(self.said) if self.said and not self.engine.is_open else why
         if status != 0:
             self.say(why, "stderr")
         self.close(why)
         if is_cut:
-            self.client.event("terminated")
+            self.event("terminated")
 
 
 def main():

@@ -24,7 +24,8 @@ class Sources:
 
     def look_in(self, program, folders):
         """Looks in these folders; where there are none, in the program's and the editor's."""
-        self.folders = [os.path.abspath(os.path.expanduser(it)) for it in folders] or [os.path.dirname(program.path), os.getcwd()]
+        folders = folders or [os.path.dirname(program.path), os.getcwd()]
+        self.folders = [os.path.abspath(os.path.expanduser(it)) for it in folders]
         self.program, self.found, self.below = program, {}, None
 
     def tell(self, path):
@@ -33,22 +34,22 @@ class Sources:
         self.found.clear()
 
     def location(self, place):
-        """Where a breakpoint at PATH:LINE goes: FILE:LINE, or an address where there are several files of that last name."""
+        """Where a breakpoint at PATH:LINE goes: FILE:LINE, or an address where several files have that last name."""
         path, line = place.rsplit(":", 1)
-        base, line, lines = os.path.basename(path), int(line), self.program.lines
+        base, lines = os.path.basename(path), self.program.lines
         like, near = {it for it in lines.paths if shown(os.path.basename(it)) == base}, lines.closest(path)
-        address = lines.address(near, line) if near != like else None
-        return "*0x%08x" % address if address is not None else "%s:%d" % (min(map(os.path.basename, like), default=base), line)
+        address = lines.address(near, int(line)) if near != like else None
+        file = min(map(os.path.basename, like), default=base)
+        return "%s:%d" % (file, int(line)) if address is None else "*0x%08x" % address
 
     def path(self, name):
-        """The path of a file that the program's tables name, or None. Of several below the folders the one nearest to the program is taken."""
-        base = os.path.basename(name)
+        """The path of a file that the program's tables name, or None; of several the nearest to the program."""
         if name not in self.found:
-            near = [it for it in self.told if os.path.basename(it) == base] + [os.path.join(it, name) for it in self.folders]
+            base = os.path.basename(name)
+            near = [it for it in self.told if os.path.basename(it) == base]
+            near += [os.path.join(it, name) for it in self.folders]
             near = [it for it in near if os.path.isfile(it) and self.is_like(it, name)]
-            if not near and self.below is None:
-                self.below = self.walk()
-            far = [it for it in (self.below or {}).get(base, []) if self.is_like(it, name)]
+            far = [] if near else [it for it in self.walk().get(base, []) if self.is_like(it, name)]
             far.sort(key=lambda it: (-tail(it, name), -len(os.path.commonpath([it, self.program.path]))))
             self.found[name] = next(map(os.path.normpath, near + far), None)
         return self.found[name]
@@ -58,29 +59,30 @@ class Sources:
         return name not in self.program.lines.paths or name in (self.program.lines.closest(path) or {name})
 
     def walk(self):
-        """The files below the folders by their last names, the upper ones first; so many, and for so long."""
-        found, count, ends, ahead = {}, 0, time.monotonic() + LONGEST_SEARCH, collections.deque(self.folders)
+        """The files below the folders by their last names, the upper ones first; so many, for so long, and once."""
+        ahead = collections.deque(self.folders if self.below is None else [])
+        ends, count, self.below = time.monotonic() + LONGEST_SEARCH, 0, self.below or {}
         while ahead and count < MOST_FILES and time.monotonic() < ends:
             with contextlib.suppress(OSError):
                 for it in sorted(os.scandir(ahead.popleft()), key=lambda it: it.name):
                     count += 1
                     if not it.is_dir(follow_symlinks=False):
-                        found.setdefault(it.name, []).append(it.path)
+                        self.below.setdefault(it.name, []).append(it.path)
                     elif not it.name.startswith("."):
                         ahead.append(it.path)
-        return found
+        return self.below
 
     def source(self, name, address):
-        """What the editor is told of a file that has an address. One that isn't found, or can't be named, has a number to ask for a text."""
+        """What the editor is told of an address's file. One that isn't found, or can't be named, has a number."""
         like = self.program.lines.closest(os.path.basename(name))
         row = self.program.lines.at(address) if len(like) > 1 else None
         name = row.path if row and row.path in like else min(like, default=name)
         path = self.path(name)
         if path and shown(path) == path:
             return {"name": os.path.basename(path), "path": path}
-        if name not in self.missing:
-            self.missing.append(name)
-        return {"name": shown(os.path.basename(name)), "sourceReference": 1 + self.missing.index(name), "presentationHint": "deemphasize"}
+        self.missing += [name] if name not in self.missing else []
+        told = {"name": shown(os.path.basename(name)), "sourceReference": 1 + self.missing.index(name)}
+        return dict(told, presentationHint="deemphasize")
 
     def text(self, reference):
         """The text of a file whose name can't be told, or one in the place of a file that isn't found."""
@@ -88,5 +90,4 @@ class Sources:
         if self.path(name):
             with open(self.path(name), encoding="utf-8", errors="replace") as file:
                 return file.read()
-        folders = "\n".join("    " + it for it in self.folders)
-        return NOWHERE % (shown(name), folders)
+        return NOWHERE % (shown(name), "\n".join("    " + it for it in self.folders))
