@@ -9,7 +9,7 @@ use Rattle.engine_parts.specs.Steps.{is_out, least_running, next_running, runnin
 use Rattle.session_parts.specs.Stage.{Stage}
 use Rattle.session_parts.specs.Steps.{IsStep}
 use Rattle.session_parts.specs.Round.{Moment, Moved, TurnsOne}
-use Rattle.session_parts.specs.Crew.{Gives, IsWorkOf, ServesHart, TakesBy, WorksAtOnce, marked, returned}
+use Rattle.session_parts.specs.Crew.{ServesHart, TakesBy, WorksAtOnce, marked, returned}
 
 -- ---- the hart that is picked has no job out
 

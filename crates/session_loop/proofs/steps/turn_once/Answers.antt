@@ -1,4 +1,4 @@
-use Rattle.std.proofs.Common.{◌≡◌, ◌++◌, ℕ, refl, sym, ap, ◌∙◌, subst}
+use Rattle.std.proofs.Common.{◌++◌, refl, sym, ap, ◌∙◌, subst}
 use mathlib.Core.Logic.{inr}
 use Rattle.std.specs.Prelude.{true, false}
 use Rattle.engine_parts.specs.Seen.{Engine}

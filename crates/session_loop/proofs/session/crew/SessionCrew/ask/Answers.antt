@@ -1,4 +1,4 @@
-use Rattle.std.proofs.Common.{◌≡◌, ℕ, false, refl, subst, true}
+use Rattle.std.proofs.Common.{ℕ, refl, subst}
 use Rattle.std.specs.Prelude.{Option, None, Some}
 use Rattle.session_parts.specs.Round.{moment}
 use Rattle.session_parts.specs.Crew.{Reaches}
