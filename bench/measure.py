@@ -10,10 +10,10 @@ RVDBG = os.path.join(HERE, "..", "crates", "dbg_program", "out", "dbg_program")
 RUNS = 5
 
 
-def seconds(words, text=b"", written=subprocess.PIPE):
+def seconds(words, text=b"", written=subprocess.PIPE, runs=RUNS):
     """The least processor time of a command over some runs, and what the last wrote to both outputs."""
     best = None
-    for _ in range(RUNS):
+    for _ in range(runs):
         before = resource.getrusage(resource.RUSAGE_CHILDREN)
         done = subprocess.run(words, input=text, stdout=written, stderr=written)
         after = resource.getrusage(resource.RUSAGE_CHILDREN)
