@@ -29,7 +29,7 @@ rvdbg: runs the RISC-V program FILE under lines of GDB/MI that come on standard 
 
 The environment's RVDBG_MEMORY is the most memory in megabytes, 0 for no bound; else it is what the machine has free, or 4 GB.
 Statuses: 0 done; 1 bad command line; 2 file refused; 3 budget used up; 4 history full; 5 file or input can't be read; 6 output can't be
-written; 7 out of memory; 8 log rejected; 126 not built; 127 no kit to build with. README.md has the commands, docs/FORMATS.md all.
+written; 7 out of memory; 8 log rejected; 126 not built; 127 no kit to build with. docs/FORMATS.md has the commands.
 END
 }
 
@@ -151,7 +151,7 @@ show_end() {
     2) show_refusal "$@" ;;
     3) read_words "$@"
         say "the budget of $budget instructions is used up: --budget sets another, up to 1000000000000."
-        say "(-exec-wait isn't answered while a hart runs: where harts wait for each other, tools/rvdbg-script waits for the next stop)" ;;
+        say "(if it waited in -exec-wait: that isn't answered while a hart runs; where harts wait for each other, tools/rvdbg-script waits for the next stop)" ;;
     4) say "the history is full, with 4194304 stops, counted arrivals, exits, lines and writes, or 64 MiB of input: begin a new session" ;;
     5) name_unreadable "$@" || say "standard input or '$file' couldn't be read to its end" ;;
     6) say "standard output couldn't be written: its reader has gone, or there is no room" ;;

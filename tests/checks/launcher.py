@@ -146,7 +146,7 @@ def check_ends(rig, clone):
     """Why a session ended."""
     used = (
         "rvdbg: the budget of 1000 instructions is used up: --budget sets another, up to 1000000000000.\n"
-        "rvdbg: (-exec-wait isn't answered while a hart runs: where harts wait for each other, tools/rvdbg-script waits for the next stop)\n"
+        "rvdbg: (if it waited in -exec-wait: that isn't answered while a hart runs; where harts wait for each other, tools/rvdbg-script waits for the next stop)\n"
     )
     for words in ("--budget 1000 loop", "loop --budget=1000"):
         rig.row("launcher: " + words, clone.session(words, CONTINUE), (3, OPENING + RUNNING, used))
