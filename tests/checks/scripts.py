@@ -52,7 +52,7 @@ def check_ends(rig, top):
         rig.row("a script: " + name, scripted(rig, top, lines, "--workers", "0", *words), tuple(wanted))
     words = ["--workers", "0", "--budget", "1000000000000", "loop"]
     found = scripted(rig, top, "-exec-continue\nwait-stop\n", *words, limit=1)
-    rig.row("a script: the limit", found, (124, typed, ["rvdbg-script: 1 seconds have passed"]))
+    rig.row("a script: the limit", found, (124, typed, ["rvdbg-script: line 2, wait-stop: 1 seconds have passed"]))
 
 
 def check_links(rig, top):
