@@ -1,7 +1,9 @@
 // What a step of the machine does to the journal and to what is kept of the harts.
-ghost use Rattle.std.specs.Prelude.{◌≡◌, ◌≤◌, ◌<◌, ◌+◌, ◌-◌, ◌^◌, true, map, length, slice_set};
+ghost use Rattle.std.specs.Prelude.{◌≡◌, ◌≤◌, ◌<◌, ◌+◌, ◌-◌, ◌^◌, None, true, map, length, slice_set};
 ghost use Rattle.dbg_model.specs.Journals.{lengthened, last_count};
 ghost use Rattle.hart_machine.specs.Stepping.{has_run};
+ghost use Rattle.step_over.specs.declared.phase.Phase.TheVariants.{Idle};
+ghost use Rattle.engine_parts.specs.declared.mind.Activity.TheVariants.{Running};
 ghost use Rattle.engine_parts.specs.Minds.{gone_mind, ran_mind, after_step};
 ghost use Rattle.engine_parts.specs.Steps.{applied, exits_of, moved_by};
 
@@ -81,6 +83,18 @@ pub fn ran_mind(mind: Mind, plan: Plan, last: Option<u32>, fired: Option<Fired>)
         course: mind.course.with_plan(plan).after_instruction(last, fired),
         ..mind
     }
+}
+
+/// Keeps of a hart that it executed and goes on as before: it runs, steps over no breakpoint, and no watch fired for it. `last` is
+/// noted of its last instruction.
+pub fn keep_going(mind: &mut Mind, last: Option<u32>)
+    requires runs { mind.old.activity ≡ Running }
+    requires idle { mind.old.phase ≡ Idle }
+    requires unfired { mind.old.course.fired ≡ None }
+    ensures { mind.new ≡ ran_mind mind.old.course.plan last None mind.old }
+{
+    mind.course.fresh = true;
+    mind.course.last = last;
 }
 
 // One more instruction of a hart, of which this is kept afterwards.

@@ -6,5 +6,5 @@ mod next;
 mod run;
 mod worker;
 
-pub use crew::{Crew, Duty};
+pub use crew::{Asked, Crew, Duty};
 pub use run::run_crew;

@@ -81,10 +81,10 @@ impl<'a, R: Wait, C: Crew, G: Gate> Worker<'a, R, C, G> {
         let mut held = held;
         for _ in 0..DUTIES {
             match next_of_ask::<C>(&mut held, self.number) {
-                Next::Work(job) => {
+                Next::Work(hart) => if let Some(job) = held.hand_out(hart) {
                     drop(held);
                     return Some(self.work(job));
-                }
+                },
                 Next::Ask => {}
                 Next::Rest => {
                     drop(held);

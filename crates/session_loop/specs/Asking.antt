@@ -1,20 +1,20 @@
--- What a session answers a worker that asks, and which slices are worked where the words stand: this project's own rule.
-use Rattle.std.specs.Prelude.{◌≡◌, ◌==◌, ◌-◌, ◌||◌, ℕ, Bool, true, false, List, slice_index_or, slice_set, Option, None, Some, if◌then◌else◌, nat_le, nat_lt}
-use Rattle.reg_slices.specs.declared.slice.Job.{Job}
-use Rattle.hart_workers.specs.declared.crew.Duty.{Duty}
+-- What a session tells a worker that asks, and which slices are worked where the words stand: this project's own rule.
+use Rattle.std.specs.Prelude.{◌≡◌, ◌==◌, ◌-◌, ◌||◌, ℕ, Bool, true, false, List, slice_index_or, slice_set, Option, None, Some, if◌then◌else◌, is_some, nat_le, nat_lt}
+use Rattle.hart_workers.specs.declared.crew.Asked.{Asked}
+use Rattle.hart_workers.specs.declared.crew.Asked.TheVariants as asked
 use Rattle.dbg_traits.specs.Told.{Told}
 use Rattle.session_parts.specs.Seen.{Seen}
 use Rattle.session_parts.specs.Round.{Moment, moment}
-use Rattle.session_parts.specs.Crew.{Duties, Reaches, ServesOnce, is_alone}
+use Rattle.session_parts.specs.Crew.{Reaches, ServesOnce, is_alone}
 
 -- how many more slices of a hart are worked where the words stand
 abbrev pub near_of : List ℕ → ℕ → ℕ
 near_of near h = slice_index_or near h 0
 
--- A slice of fewer than 64 instructions is short. Behind a long one the next is handed out. Behind a short one that was handed out
--- the next 63 aren't.
+-- A slice of fewer than 512 instructions is short. Behind a long one the next is handed out. Behind a short one that was handed
+-- out the next 63 aren't.
 abbrev pub near_behind : ℕ → ℕ → ℕ
-near_behind near count = if nat_le 64 count then 0 else if near == 0 then 63 else near - 1
+near_behind near count = if nat_le 512 count then 0 else if near == 0 then 63 else near - 1
 
 -- what is kept of the harts behind a slice of hart h of so many instructions
 abbrev pub counted : List ℕ → ℕ → ℕ → List ℕ
@@ -32,10 +32,18 @@ abbrev pub near_after : Bool → Option ℕ → List ℕ → ℕ → List ℕ
 near_after true (Some h) near count = counted near h count
 near_after _ _ near count = near
 
--- A duty; or, where that is answered with nothing, a duty whose job was worked and taken back at once.
-abbrev pub Asks : Moment → Option (Duty Job) → Moment → Type 0
-Asks p None q = ServesOnce p q
-Asks p (Some d) q = Duties d p q
+-- A duty whose job was worked and taken back at once; a round, and the hart that may give a job then, if there is one; or nothing,
+-- where the status is set.
+abbrev pub Asks : Moment → Asked → Moment → Type 0
+Asks p asked.Served q = ServesOnce p q
+Asks p (asked.Picked h) q = Reaches (Some h) p q
+Asks p asked.Again q = Reaches None p q
+Asks p asked.Over q = (is_some p.status ≡ true) × (q ≡ p)
+
+-- whether a worker was told that its duty is done, with what its job asks for
+abbrev pub is_served : Asked → Bool
+is_served asked.Served = true
+is_served _ = false
 
 -- Whether a slice is worked where the words stand is seen behind the round, by the hart that may give a job then.
 pub record Chooses {W : Type 0} (told : W → Told) (here : Bool) (s t : Seen W) : Type 0 where

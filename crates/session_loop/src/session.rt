@@ -250,6 +250,7 @@ impl<W: World> Session<W> {
     }
 
     // One round: input is taken, a line is done, a hart is picked and moved. The hart that was picked, if one was.
+    #[inline(never)]
     fn go_round(&mut self) -> Option<u32>
         requires { self.old.status ≡ None }
         ensures opening { self.new.run.opening ≡ self.old.run.opening }

@@ -104,6 +104,7 @@ fn report_move(
 }
 
 /// One turn of a hart, with its lines, which go through the memory of `lines`.
+#[inline(never)]
 pub fn turn_once<W: World>(
     world: &mut W,
     engine: &mut Engine,
@@ -192,6 +193,7 @@ fn put_done<W: World>(
 
 /// The next line of the rest of the input, with its reply, in a session that may go on. What it sees of the harts goes through
 /// the memory of `threads`, and its reply through that of `lines`.
+#[inline(never)]
 pub fn line_once<W: World>(
     alloc: Global,
     world: &mut W,

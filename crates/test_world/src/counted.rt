@@ -2,7 +2,7 @@
 ghost use Rattle.std.specs.Prelude.{true, ◌≡◌, ◌≤◌, ◌==◌};
 
 use dbg_traits::OpenGate;
-use hart_workers::{Crew, Duty, run_crew};
+use hart_workers::{Asked, Crew, Duty, run_crew};
 use std::alloc::Global;
 use std::sync::atomic::{AtomicU64, Ordering};
 use std::sync::{Mutex, Wait};
@@ -46,6 +46,10 @@ impl<'a> Crew for Counter<'a> {
 
     ghost asks = { λ _ _ _. Unit {0} };
 
+    ghost has = { λ _ _. Unit {0} };
+
+    ghost gives = { λ _ _ _ _. Unit {0} };
+
     fn duty(&mut self, _worker: u32) -> Duty<Meeting<'a>> {
         if self.count == self.goal {
             return Duty::Over;
@@ -57,8 +61,22 @@ impl<'a> Crew for Counter<'a> {
         Duty::Job(Meeting { begun: self.begun })
     }
 
-    fn ask(&mut self, worker: u32) -> Option<Duty<Meeting<'a>>> {
-        Some(self.duty(worker))
+    fn ask(&mut self, _worker: u32) -> Asked {
+        if self.count == self.goal {
+            return Asked::Over;
+        }
+        if self.handed == self.goal {
+            return Asked::Again;
+        }
+        Asked::Picked(0)
+    }
+
+    fn hand_out(&mut self, _hart: u32) -> Option<Meeting<'a>> {
+        if self.handed == self.goal {
+            return None;
+        }
+        self.handed += 1;
+        Some(Meeting { begun: self.begun })
     }
 
     fn hart_of(_job: &Meeting<'a>) -> u32 {

@@ -2,7 +2,7 @@
 ghost use Rattle.std.specs.Prelude.{true, ◌≡◌, ◌==◌};
 
 use dbg_traits::Gate;
-use hart_workers::{Crew, Duty, run_crew};
+use hart_workers::{Asked, Crew, Duty, run_crew};
 use std::alloc::Global;
 use std::sync::atomic::{AtomicU64, Ordering};
 use std::sync::{Mutex, Wait};
@@ -27,6 +27,10 @@ impl<'a> Crew for Marked<'a> {
 
     ghost asks = { λ _ _ _. Unit {0} };
 
+    ghost has = { λ _ _. Unit {0} };
+
+    ghost gives = { λ _ _ _ _. Unit {0} };
+
     fn duty(&mut self, _worker: u32) -> Duty<&'a AtomicU64> {
         if self.left == 0 {
             return Duty::Over;
@@ -35,8 +39,16 @@ impl<'a> Crew for Marked<'a> {
         Duty::Job(self.worked)
     }
 
-    fn ask(&mut self, worker: u32) -> Option<Duty<&'a AtomicU64>> {
-        Some(self.duty(worker))
+    fn ask(&mut self, _worker: u32) -> Asked {
+        if self.left == 0 {
+            return Asked::Over;
+        }
+        self.left -= 1;
+        Asked::Picked(0)
+    }
+
+    fn hand_out(&mut self, _hart: u32) -> Option<&'a AtomicU64> {
+        Some(self.worked)
     }
 
     fn hart_of(_job: &&'a AtomicU64) -> u32 {

@@ -2,7 +2,7 @@
 ghost use Rattle.std.specs.Prelude.{true, ◌≡◌, ◌<◌, nat_le};
 
 use dbg_traits::Gate;
-use hart_workers::{Crew, Duty, run_crew};
+use hart_workers::{Asked, Crew, Duty, run_crew};
 use std::alloc::Global;
 use std::sync::atomic::{AtomicU64, Ordering};
 use std::sync::{Mutex, Wait};
@@ -99,6 +99,10 @@ impl Crew for Harts {
 
     ghost asks = { λ _ _ _. Unit {0} };
 
+    ghost has = { λ _ h. h < 2 };
+
+    ghost gives = { λ _ _ _ _. Unit {0} };
+
     fn duty(&mut self, _worker: u32) -> Duty<u32> {
         if self.taken >= 20 {
             return Duty::Over;
@@ -111,8 +115,17 @@ impl Crew for Harts {
         }
     }
 
-    fn ask(&mut self, worker: u32) -> Option<Duty<u32>> {
-        Some(self.duty(worker))
+    fn ask(&mut self, _worker: u32) -> Asked {
+        if self.taken >= 20 {
+            return Asked::Over;
+        }
+        let hart = if self.next { 1 } else { 0 };
+        self.next = !self.next;
+        Asked::Picked(hart)
+    }
+
+    fn hand_out(&mut self, hart: u32) -> Option<u32> {
+        self.try_hart(hart as usize)
     }
 
     fn hart_of(job: &u32) -> u32 {

@@ -2,7 +2,7 @@
 ghost use Rattle.std.specs.Prelude.{◌≡◌, ◌==◌};
 
 use dbg_traits::Gate;
-use hart_workers::{Crew, Duty, run_crew};
+use hart_workers::{Asked, Crew, Duty, run_crew};
 use std::alloc::Global;
 use std::sync::atomic::{AtomicU64, Ordering};
 use std::sync::{Mutex, Wait};
@@ -11,13 +11,13 @@ use test_rows::{RowFault, number};
 
 // Answers so many asks before it is over: by itself, where it serves here, and else with Again. Meanwhile it is idle or isn't.
 #[derive(Drop)]
-struct Asked {
+struct Asking {
     idle: bool,
     here: bool,
     left: u32,
 }
 
-impl Crew for Asked {
+impl Crew for Asking {
     type Job = u32;
 
     type Done = u32;
@@ -28,6 +28,10 @@ impl Crew for Asked {
 
     ghost asks = { λ _ _ _. Unit {0} };
 
+    ghost has = { λ _ _. Unit {0} };
+
+    ghost gives = { λ _ _ _ _. Unit {0} };
+
     fn duty(&mut self, _worker: u32) -> Duty<u32> {
         if self.left == 0 {
             return Duty::Over;
@@ -36,12 +40,20 @@ impl Crew for Asked {
         Duty::Again
     }
 
-    fn ask(&mut self, worker: u32) -> Option<Duty<u32>> {
-        if self.here && self.left > 0 {
-            self.left -= 1;
-            return None;
+    fn ask(&mut self, _worker: u32) -> Asked {
+        if self.left == 0 {
+            return Asked::Over;
         }
-        Some(self.duty(worker))
+        self.left -= 1;
+        if self.here {
+            Asked::Served
+        } else {
+            Asked::Again
+        }
+    }
+
+    fn hand_out(&mut self, _hart: u32) -> Option<u32> {
+        None
     }
 
     fn hart_of(_job: &u32) -> u32 {
@@ -98,6 +110,6 @@ pub fn answer<R: Threads + Wait + Sync>(
     let left = number(asks).ok_or(RowFault::Unknown)?;
     let here = which == "here";
     let idle = here || which == "idle";
-    let rests = count(rt, Asked { idle, here, left });
+    let rests = count(rt, Asking { idle, here, left });
     Ok(format!(in alloc; "{rests}")?)
 }

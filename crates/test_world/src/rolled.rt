@@ -2,7 +2,7 @@
 ghost use Rattle.std.specs.Prelude.{true, ◌≡◌};
 
 use dbg_traits::OpenGate;
-use hart_workers::{Crew, Duty, run_crew};
+use hart_workers::{Asked, Crew, Duty, run_crew};
 use std::alloc::{AllocError, Global};
 use std::sync::{Mutex, Wait};
 use std::thread::Threads;
@@ -50,6 +50,10 @@ impl Crew for Roll {
 
     ghost asks = { λ _ _ _. Unit {0} };
 
+    ghost has = { λ _ _. Unit {0} };
+
+    ghost gives = { λ _ _ _ _. Unit {0} };
+
     fn duty(&mut self, worker: u32) -> Duty<u32> {
         if self.over {
             return Duty::Over;
@@ -69,8 +73,16 @@ impl Crew for Roll {
         Duty::Job(self.handed)
     }
 
-    fn ask(&mut self, worker: u32) -> Option<Duty<u32>> {
-        Some(self.duty(worker))
+    fn ask(&mut self, worker: u32) -> Asked {
+        match self.duty(worker) {
+            Duty::Over => Asked::Over,
+            Duty::Again => Asked::Again,
+            Duty::Job(_number) => Asked::Picked(0),
+        }
+    }
+
+    fn hand_out(&mut self, _hart: u32) -> Option<u32> {
+        Some(self.handed)
     }
 
     fn hart_of(_job: &u32) -> u32 {

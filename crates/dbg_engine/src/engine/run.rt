@@ -11,7 +11,7 @@ use super::stepping::by_copies;
 use elf32_read::Image;
 use engine_parts::going::{Surroundings, go};
 use engine_parts::minds::is_running;
-use engine_parts::moving::ran_mind;
+use engine_parts::moving::keep_going;
 use engine_parts::staying::{OnLine, came_within, stay};
 use engine_parts::waiting::awaited;
 use engine_parts::{Hold, Mind, Phase};
@@ -117,7 +117,7 @@ impl Engine {
         }
         let count = u64::from(progress.instructions);
         self.journal.lengthen(h, count);
-        self.minds[h as usize] = ran_mind(mind, mind.course.plan, None, None);
+        keep_going(&mut self.minds[h as usize], None);
         self.retired += count;
         progress.turns
     }
@@ -149,7 +149,7 @@ impl Engine {
         }
         let count = u64::from(stayed.count);
         self.journal.lengthen(h, count);
-        self.minds[h as usize] = ran_mind(mind, mind.course.plan, Some(stayed.last), None);
+        keep_going(&mut self.minds[h as usize], Some(stayed.last));
         self.retired += count;
         stayed.count
     }

@@ -7,7 +7,7 @@ use super::Engine;
 use super::run::is_idle;
 use engine_parts::Mind;
 use engine_parts::minds::{is_running, other_holder};
-use engine_parts::moving::ran_mind;
+use engine_parts::moving::{keep_going, ran_mind};
 use hart_machine::Machine;
 use reg_slices::{Job, Slice, run_slice};
 use rv_exec::Regs;
@@ -145,14 +145,13 @@ impl Engine {
             self.serve_apart(h);
             return;
         }
-        let mind = self.mind(h);
         let instructions = self.machine.stretch(h, limit);
         if instructions == 0 {
             return;
         }
         let count = u64::from(instructions);
         self.journal.lengthen(h, count);
-        self.minds[h as usize] = ran_mind(mind, mind.course.plan, None, None);
+        keep_going(&mut self.minds[h as usize], None);
         self.retired += count;
     }
 

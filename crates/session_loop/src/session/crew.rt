@@ -1,17 +1,17 @@
 // A session as a crew: its duties are rounds, its jobs the slices of harts.
-ghost use Rattle.std.specs.Prelude.{◌≡◌, ◌≢◌, ◌<◌, ◌≤◌, ◌↔◌, ◌&&◌, ◌-◌, true, false, None, Some, IfSome, IsTrue, is_none, is_some, nat_lt, slice_set};
+ghost use Rattle.std.specs.Prelude.{◌≡◌, ◌≢◌, ℕ, ◌<◌, ◌≤◌, ◌↔◌, ◌&&◌, ◌-◌, true, false, None, Some, IfSome, IsTrue, is_none, is_some, nat_lt, slice_set};
 ghost use Rattle.engine_parts.specs.Steps.{NoneOut, is_out};
 ghost use Rattle.session_parts.specs.Crew.{Duties, Gives, IsWorkOf, Reaches, ServesAlone, ServesHart, ServesOnce, TakesBack, TakesBy, is_alone, is_idle};
 ghost use Rattle.session_parts.specs.Taking.{has_looked};
 ghost use Rattle.session_parts.specs.Round.{moment};
 ghost use Rattle.session_parts.specs.Seen.{work};
-ghost use Rattle.session_loop.specs.Asking.{Asks, Chooses, counted, in_place, near_behind, near_of};
+ghost use Rattle.session_loop.specs.Asking.{Asks, Chooses, counted, in_place, is_served, near_behind, near_of};
 
 use super::{HARTS, Session};
 use crate::ending::over;
 use dbg_engine::{Commit, SPARE};
 use dbg_traits::World;
-use hart_workers::{Crew, Duty};
+use hart_workers::{Asked, Crew, Duty};
 use reg_slices::{Job, Slice, run_slice};
 use session_parts::Status;
 
@@ -24,8 +24,9 @@ fn clear(marks: &mut [bool], hart: u32)
     }
 }
 
-// A slice of fewer instructions is short: to copy a job, hand it out and take it back takes as long as some fifty.
-const LONG: u64 = 64;
+// A slice of fewer instructions is short: to copy a job, hand it out and take it back, while others wait for the lock, takes as
+// long as some hundreds.
+const LONG: u64 = 512;
 
 // How many slices of a hart are worked where the words stand behind a short one that was handed out. Then one is handed out
 // again, so that a hart that comes to long ones is found out.
@@ -87,19 +88,6 @@ impl<W: World> Session<W> {
             return None;
         }
         Some(hart)
-    }
-
-    // The job of a hart, if it gives one. It is out from then on.
-    fn hand_out(&mut self, hart: u32) -> Option<Job>
-        requires { hart < self.old.run.opening.settings.harts }
-        ensures opening { self.new.run.opening ≡ self.old.run.opening }
-        ensures gives { Gives hart result (moment W.told self.old) (moment W.told self.new) }
-        ensures near { self.new.near ≡ self.old.near }
-        ensures work { work self.new ≡ work self.old }
-    {
-        let job = self.engine.check_out(hart)?;
-        self.out[hart as usize] = true;
-        Some(job)
     }
 
     // Commits a slice in a session that goes on, if it can be taken still.
@@ -252,7 +240,11 @@ impl<W: World> Crew for Session<W> {
 
     ghost rests = { λ s. has_looked s.known && is_idle (moment W.told s) };
 
-    ghost asks = { λ s answer t. Asks (moment W.told s) answer (moment W.told t) };
+    ghost asks = { λ s told t. Asks (moment W.told s) told (moment W.told t) };
+
+    ghost has = { λ s h. h < s.run.opening.settings.harts };
+
+    ghost gives = { λ s h job t. Gives h job (moment W.told s) (moment W.told t) };
 
     /// A round, where the status isn't set, and then a job of the hart that was picked, if it gives one.
     fn duty(&mut self, _worker: u32) -> Duty<Job>
@@ -299,27 +291,40 @@ impl<W: World> Crew for Session<W> {
         self.take_back(&slice);
     }
 
-    /// One duty; or, behind a round whose hart's slice is worked where the words stand, that too, and then None.
-    fn ask(&mut self, _worker: u32) -> Option<Duty<Job>>
-        ensures over { (result ≡ Some Duty.Over) ↔ (is_some self.old.status ≡ true) }
+    /// A round, where the status isn't set; and behind it the slice of the hart that was picked, where that is worked where the
+    /// words stand.
+    #[inline(always)]
+    fn ask(&mut self, _worker: u32) -> Asked
+        ensures over { (result ≡ Asked.Over) ↔ (is_some self.old.status ≡ true) }
         ensures opening { self.new.run.opening ≡ self.old.run.opening }
         ensures asks { Asks (moment W.told self.old) result (moment W.told self.new) }
-        ensures chooses { self.old.status ≡ None → Chooses W.told (is_none result) self.old self.new }
+        ensures has { (h : ℕ) → result ≡ Asked.Picked h → h < self.new.run.opening.settings.harts }
+        ensures chooses { self.old.status ≡ None → Chooses W.told (is_served result) self.old self.new }
     {
         if self.status.is_some() {
-            return Some(Duty::Over);
+            return Asked::Over;
         }
         let Some(hart) = self.go() else {
-            return Some(Duty::Again);
+            return Asked::Again;
         };
         if self.in_place(hart) {
             self.serve_near(hart);
-            return None;
+            return Asked::Served;
         }
-        match self.hand_out(hart) {
-            Some(job) => Some(Duty::Job(job)),
-            None => Some(Duty::Again),
-        }
+        Asked::Picked(hart)
+    }
+
+    /// The job of a hart, if it gives one. It is out from then on.
+    fn hand_out(&mut self, hart: u32) -> Option<Job>
+        requires { hart < self.old.run.opening.settings.harts }
+        ensures opening { self.new.run.opening ≡ self.old.run.opening }
+        ensures gives { Gives hart result (moment W.told self.old) (moment W.told self.new) }
+        ensures near { self.new.near ≡ self.old.near }
+        ensures work { work self.new ≡ work self.old }
+    {
+        let job = self.engine.check_out(hart)?;
+        self.out[hart as usize] = true;
+        Some(job)
     }
 
     /// Whether the status is set.

@@ -2,7 +2,10 @@ use Rattle.std.proofs.Common.{◌≡◌, ◌<◌, ℕ, ◌+◌, sym, ap, ◌∙�
 use Rattle.hart_machine.specs.Patched.{Patched}
 use Rattle.engine_parts.specs.Seen.{Engine}
 use Rattle.engine_parts.specs.Facts.{Facts}
-use Rattle.std.specs.Prelude.{slice_set}
+use Rattle.std.specs.Prelude.{None, slice_get, slice_set}
+use Rattle.std.proofs.lemmas.Option.{get_or_from_slice_get}
+use Rattle.engine_parts.specs.declared.mind.Mind.{Mind}
+use Rattle.engine_parts.specs.Minds.{ran_mind}
 use Rattle.dbg_model.specs.Journals.{lengthened_by}
 use Rattle.engine_parts.specs.Several.{is_alone}
 use Rattle.dbg_engine.specs.EngineInside.{run_of}
@@ -48,6 +51,12 @@ returns-then-progress-eq0-clause-facts c = kept c
 pub invariant_of-self : goal.invariant_of-self
 invariant_of-self c = record { facts = kept c }
 
+-- the hart is what was looked at
+same : (c : goal.After-self-2-1) → c.index_mut.result.now ≡ c.args.mind
+same c =
+    let r = run_of c.self.inside in
+    c.index_mut.ensures.value ∙ get_or_from_slice_get r.minds c.args.h c.args.mind c.index_mut.result.now (ap (λ (q : Engine). slice_get q.minds c.args.h) c.self.view_is ∙ c.requires.mind)
+
 -- the engine so many turns on
 abbrev new_run : goal.After-self-2-1 → Engine
 new_run c =
@@ -56,7 +65,7 @@ new_run c =
       journal = c.lengthen.new.self.entries;
       spare = c.lengthen.new.self.spare;
       machine = c.go-progress.new.machine;
-      minds = slice_set r.minds c.args.h c.ran_mind.result;
+      minds = slice_set r.minds c.args.h c.keep_going.new.mind;
       retired = r.retired + c.from-count.result;
     }
 
@@ -65,11 +74,11 @@ gone c =
     let r = run_of c.self.inside in
     let s = c.args.self.now in
     let p = c.go-progress.result in
-    gone_to r s c.args.h c.lengthen.new.self.spare c.min-most.result p.turns p.instructions c.by_copies.result c.args.mind c.ran_mind.result c.go-progress.new.machine c.lengthen.new.self.entries c.from-count.result
+    gone_to r s c.args.h c.lengthen.new.self.spare c.min-most.result p.turns p.instructions c.by_copies.result c.args.mind c.keep_going.new.mind c.go-progress.new.machine c.lengthen.new.self.entries c.from-count.result
     c.self.view_is (omega arith) c.self.invariant.facts c.requires.may c.requires.mind c.requires.off
     (ap (λ (q : Engine). is_alone q.opening.image c.args.mind q.hold) c.self.view_is ∙ c.requires.alone)
     (omega (arith, c.min-most.ensures)) (λ e. (c.by_copies.ensures.yes e).0) c.go-progress.ensures.goes
-    (c.lengthen.ensures.entries ∙ ap (λ n. lengthened_by n r.journal c.args.h) c.from-count.ensures) c.ran_mind.ensures c.from-count.ensures
+    (c.lengthen.ensures.entries ∙ ap (λ n. lengthened_by n r.journal c.args.h) c.from-count.ensures) (c.keep_going.ensures ∙ ap (λ (x : Mind). ran_mind x.course.plan None None x) (same c)) c.from-count.ensures
 
 pub invariant_of-self-2 : goal.invariant_of-self-2
 invariant_of-self-2 c = record { facts = (gone c).facts }

@@ -1,5 +1,7 @@
 use Rattle.std.proofs.Common.{◌≡◌, ◌<◌, ℕ, ◌+◌, sym, ap, ◌∙◌, subst, arith}
-use Rattle.std.specs.Prelude.{slice_get, slice_set}
+use Rattle.std.specs.Prelude.{None, Some, slice_get, slice_set}
+use Rattle.std.proofs.lemmas.Option.{get_or_from_slice_get}
+use Rattle.engine_parts.specs.Minds.{ran_mind}
 use Rattle.hart_machine.specs.Patched.{Patched}
 use Rattle.hart_machine.proofs.Places.{get-set_same}
 use Rattle.dbg_model.specs.Journals.{lengthened_by}
@@ -56,6 +58,12 @@ returns-then-stayed-eq0-clause-turns c = ap (λ (m : Patched). let q : Engine = 
 pub invariant_of-self : goal.invariant_of-self
 invariant_of-self c = record { facts = kept c }
 
+-- the hart is what was looked at
+same : (c : goal.After-self-2-1) → c.index_mut.result.now ≡ c.args.mind
+same c =
+    let r = run_of c.self.inside in
+    c.index_mut.ensures.value ∙ get_or_from_slice_get r.minds c.args.h c.args.mind c.index_mut.result.now (ap (λ (q : Engine). slice_get q.minds c.args.h) c.self.view_is ∙ c.requires.mind)
+
 -- the engine so many instructions on
 abbrev new_run : goal.After-self-2-1 → Engine
 new_run c =
@@ -64,7 +72,7 @@ new_run c =
       journal = c.lengthen.new.self.entries;
       spare = c.lengthen.new.self.spare;
       machine = c.stay-stayed.new.machine;
-      minds = slice_set r.minds c.args.h c.ran_mind.result;
+      minds = slice_set r.minds c.args.h c.keep_going.new.mind;
       retired = r.retired + c.from-count.result;
     }
 
@@ -73,11 +81,11 @@ gone c =
     let r = run_of c.self.inside in
     let p = c.stay-stayed.result in
     let stays = own_stays r c.args.h c.args.file c.args.line p.count p.last _ r.machine c.stay-stayed.new.machine c.lines.ensures c.stay-stayed.ensures.stays in
-    stayed_to r c.args.self.now c.args.h c.lengthen.new.self.spare p.count p.last c.args.file c.args.line c.requires.plan.0 c.args.mind c.ran_mind.result c.stay-stayed.new.machine c.lengthen.new.self.entries c.from-count.result
+    stayed_to r c.args.self.now c.args.h c.lengthen.new.self.spare p.count p.last c.args.file c.args.line c.requires.plan.0 c.args.mind c.keep_going.new.mind c.stay-stayed.new.machine c.lengthen.new.self.entries c.from-count.result
     c.self.view_is (omega arith) c.self.invariant.facts c.requires.may c.requires.mind c.requires.plan.1
     (ap (λ (q : Engine). is_alone q.opening.image c.args.mind q.hold) c.self.view_is ∙ c.requires.alone)
     (omega (arith, c.min-most.ensures, c.stay-stayed.ensures.limit)) stays
-    (c.lengthen.ensures.entries ∙ ap (λ n. lengthened_by n r.journal c.args.h) c.from-count.ensures) c.ran_mind.ensures c.from-count.ensures
+    (c.lengthen.ensures.entries ∙ ap (λ n. lengthened_by n r.journal c.args.h) c.from-count.ensures) (c.keep_going.ensures ∙ ap (λ (x : Mind). ran_mind x.course.plan (Some c.stay-stayed.result.last) None x) (same c)) c.from-count.ensures
 
 pub invariant_of-self-2 : goal.invariant_of-self-2
 invariant_of-self-2 c = record { facts = (gone c).facts }
@@ -93,10 +101,10 @@ returns-clause-far c =
     let r = run_of c.self.inside in
     let p = c.stay-stayed.result in
     let at = ap (λ (q : Engine). slice_get q.minds c.args.h) c.self.view_is ∙ c.requires.mind in
-    let set = get-set_same r.minds c.args.h c.ran_mind.result c.args.mind at in
-    let plan = ap (λ (x : Mind). x.course.plan) c.ran_mind.ensures ∙ c.requires.plan.1 in
+    let set = get-set_same r.minds c.args.h c.keep_going.new.mind c.args.mind at in
+    let plan = ap (λ (x : Mind). x.course.plan) (c.keep_going.ensures ∙ ap (λ (x : Mind). ran_mind x.course.plan (Some c.stay-stayed.result.last) None x) (same c)) ∙ c.requires.plan.1 in
     λ less.
-    rests_on (new_run c) c.args.h c.args.file c.args.line p.count c.min-most.result c.args.limit c.requires.plan.0 c.ran_mind.result set plan less
+    rests_on (new_run c) c.args.h c.args.file c.args.line p.count c.min-most.result c.args.limit c.requires.plan.0 c.keep_going.new.mind set plan less
     (λ few same. omega (arith, c.min-most.ensures, c.from-count.ensures, few, same)) c.stay-stayed.ensures.limit
     (λ e. own_ends r c.args.h c.args.file c.args.line _ c.stay-stayed.new.machine c.lines.ensures (c.stay-stayed.ensures.far e))
 

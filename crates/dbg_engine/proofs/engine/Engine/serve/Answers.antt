@@ -1,14 +1,18 @@
-use Rattle.std.proofs.Common.{◌<◌, ℕ, ◌+◌, ap, arith, refl, subst, sym, ◌∙◌}
-use Rattle.std.specs.Prelude.{slice_set}
+use Rattle.std.proofs.Common.{◌≡◌, ◌<◌, ℕ, ◌+◌, true, ap, arith, refl, subst, sym, ◌∙◌}
+use Rattle.std.specs.Prelude.{None, slice_set}
+use Rattle.std.proofs.lemmas.Option.{get_or_from_slice_get}
 use Rattle.hart_machine.specs.Patched.{Patched}
 use Rattle.dbg_model.specs.Journals.{lengthened_by}
 use Rattle.engine_parts.specs.Facts.{Facts}
+use Rattle.engine_parts.specs.declared.mind.Mind.{Mind}
+use Rattle.engine_parts.specs.Minds.{ran_mind}
 use Rattle.engine_parts.specs.Seen.{Engine}
 use Rattle.engine_parts.specs.Slicing.{ServesBy, gives_job}
 use Rattle.engine_parts.proofs.Aheads.{small_of}
 use Rattle.engine_parts.proofs.Serving.{nothing_here, served_here, served_nothing, served_to}
 use Rattle.engine_parts.proofs.Stretching.{giver}
-use Rattle.engine_parts.proofs.Taking.{Taken}
+use Rattle.engine_parts.proofs.Passing.{Apart}
+use Rattle.engine_parts.proofs.Taking.{Taken, apart_so}
 use Rattle.dbg_engine.specs.EngineInside.{run_of}
 use Rattle.dbg_engine.proofs.Within.{has_core, has_mind, has_room, within_budget}
 use Rattle.dbg_engine.proofs.engine.Engine.serve.Goals as goal
@@ -47,14 +51,18 @@ overflow_sub-self-inside c =
 
 pub stretch-instructions-requires : goal.stretch-instructions-requires
 stretch-instructions-requires c =
-    has_core (run_of c.self.inside) c.args.self.now c.args.h c.mind-mind.result c.self.view_is c.self.invariant.facts.sound c.mind-mind.ensures
+    let r = run_of c.self.inside in
+    let g = giver r c.args.h (ap (λ (q : Engine). gives_job q c.args.h) c.self.view_is ∙ sym c.if-not-gives_job.ensures) in
+    has_core r r c.args.h g.ready.mind refl c.self.invariant.facts.sound g.ready.at
 
 pub lengthen-requires-clause-room : goal.lengthen-requires-clause-room
 lengthen-requires-clause-room c = has_room (run_of c.self.inside) c.args.self.now c.self.view_is c.requires.spare
 
 pub index_mut-requires : goal.index_mut-requires
 index_mut-requires c =
-    let here = has_mind (run_of c.self.inside) c.args.self.now c.args.h c.mind-mind.result c.self.view_is c.mind-mind.ensures in
+    let r = run_of c.self.inside in
+    let g = giver r c.args.h (ap (λ (q : Engine). gives_job q c.args.h) c.self.view_is ∙ sym c.if-not-gives_job.ensures) in
+    let here = has_mind r r c.args.h g.ready.mind refl g.ready.at in
     subst (λ (n : ℕ). c.args.h < n) (sym c.self.inside.minds.ok.0) here
 
 pub lengthen-requires-clause-last : goal.lengthen-requires-clause-last
@@ -64,21 +72,48 @@ lengthen-requires-clause-last c =
     let k = small_of r r refl c.self.invariant.facts.sound g.may in
     omega (arith, k.last, c.from.ensures, c.from-count.ensures, c.stretch-instructions.ensures.limit, c.if-self-from.false)
 
+requires_apart : (r : Engine) (h : ℕ) (now : Mind) → (is : gives_job r h ≡ true) → now ≡ (giver r h is).ready.mind → Apart now
+requires_apart r h now is same = let g = (giver r h is).ready in subst Apart (sym same) (apart_so g.mind g.apart)
+
+pub keep_going-requires-clause-runs : goal.keep_going-requires-clause-runs
+keep_going-requires-clause-runs c =
+    let r = run_of c.self.inside in
+    let is = ap (λ (q : Engine). gives_job q c.args.h) c.self.view_is ∙ sym c.if-not-gives_job.ensures in
+    let g = (giver r c.args.h is).ready in
+    (requires_apart r c.args.h c.index_mut.result.now is (c.index_mut.ensures.value ∙ get_or_from_slice_get r.minds c.args.h g.mind c.index_mut.result.now g.at)).runs
+
+pub keep_going-requires-clause-idle : goal.keep_going-requires-clause-idle
+keep_going-requires-clause-idle c =
+    let r = run_of c.self.inside in
+    let is = ap (λ (q : Engine). gives_job q c.args.h) c.self.view_is ∙ sym c.if-not-gives_job.ensures in
+    let g = (giver r c.args.h is).ready in
+    (requires_apart r c.args.h c.index_mut.result.now is (c.index_mut.ensures.value ∙ get_or_from_slice_get r.minds c.args.h g.mind c.index_mut.result.now g.at)).idle
+
+pub keep_going-requires-clause-unfired : goal.keep_going-requires-clause-unfired
+keep_going-requires-clause-unfired c =
+    let r = run_of c.self.inside in
+    let is = ap (λ (q : Engine). gives_job q c.args.h) c.self.view_is ∙ sym c.if-not-gives_job.ensures in
+    let g = (giver r c.args.h is).ready in
+    (requires_apart r c.args.h c.index_mut.result.now is (c.index_mut.ensures.value ∙ get_or_from_slice_get r.minds c.args.h g.mind c.index_mut.result.now g.at)).unfired
+
 -- the engine with the stretch's instructions done
 abbrev new_run : goal.After-self-2-1 → Engine
 new_run c =
     let r = run_of c.self.inside in
-    record r { journal = c.lengthen.new.self.entries; spare = c.lengthen.new.self.spare; machine = c.stretch-instructions.new.self; minds = slice_set r.minds c.args.h c.ran_mind.result; retired = r.retired + c.from-count.result }
+    record r { journal = c.lengthen.new.self.entries; spare = c.lengthen.new.self.spare; machine = c.stretch-instructions.new.self; minds = slice_set r.minds c.args.h c.keep_going.new.mind; retired = r.retired + c.from-count.result }
 
 taken : (c : goal.After-self-2-1) → Taken c.stretch-instructions.result (run_of c.self.inside) (new_run c) c.args.h
 taken c =
     let r = run_of c.self.inside in
-    let g = giver r c.args.h (ap (λ (q : Engine). gives_job q c.args.h) c.self.view_is ∙ sym c.if-not-gives_job.ensures) in
+    let is = ap (λ (q : Engine). gives_job q c.args.h) c.self.view_is ∙ sym c.if-not-gives_job.ensures in
+    let g = giver r c.args.h is in
     let k = small_of r r refl c.self.invariant.facts.sound g.may in
-    served_to r c.args.self.now c.args.h c.stretch-instructions.result c.lengthen.new.self.spare c.mind-mind.result c.ran_mind.result
-    c.stretch-instructions.new.self c.lengthen.new.self.entries c.from-count.result c.self.view_is (omega arith) c.self.invariant.facts
-    (sym c.if-not-gives_job.ensures) (omega (arith, k.last, c.from.ensures, c.stretch-instructions.ensures.limit, c.if-self-from.false)) c.mind-mind.ensures c.stretch-instructions.ensures.steps
-    (c.lengthen.ensures.entries ∙ ap (λ n. lengthened_by n r.journal c.args.h) c.from-count.ensures) c.ran_mind.ensures c.from-count.ensures
+    let same = c.index_mut.ensures.value ∙ get_or_from_slice_get r.minds c.args.h g.ready.mind c.index_mut.result.now g.ready.at in
+    served_to r r c.args.h c.stretch-instructions.result c.lengthen.new.self.spare g.ready.mind c.keep_going.new.mind
+    c.stretch-instructions.new.self c.lengthen.new.self.entries c.from-count.result refl (omega arith) c.self.invariant.facts
+    is (omega (arith, k.last, c.from.ensures, c.stretch-instructions.ensures.limit, c.if-self-from.false)) g.ready.at c.stretch-instructions.ensures.steps
+    (c.lengthen.ensures.entries ∙ ap (λ n. lengthened_by n r.journal c.args.h) c.from-count.ensures)
+    (c.keep_going.ensures ∙ ap (λ (x : Mind). ran_mind x.course.plan None None x) same) c.from-count.ensures
 
 pub invariant_of-self-2 : goal.invariant_of-self-2
 invariant_of-self-2 c = record { facts = (taken c).facts }

@@ -2,7 +2,6 @@ use Rattle.std.proofs.Common.{ℕ, refl, subst}
 use Rattle.std.specs.Prelude.{Option, None, Some}
 use Rattle.session_parts.specs.Round.{moment}
 use Rattle.session_parts.specs.Crew.{Reaches}
-use Rattle.session_parts.proofs.Outs.{goes, rests}
 use Rattle.session_parts.proofs.Serving.{serves_duty}
 use Rattle.session_loop.proofs.session.crew.SessionCrew.ask.Goals as goal
 
@@ -10,7 +9,7 @@ pub returns-in_default-clause-asks : goal.returns-in_default-clause-asks
 returns-in_default-clause-asks g c =
     let p = moment g.W.World.told c.args.self.now in
     let q = moment g.W.World.told c.go.new.self in
-    rests p q (subst (λ (o : Option ℕ). Reaches o p q) c.in_default.is c.go.ensures.reaches)
+    subst (λ (o : Option ℕ). Reaches o p q) c.in_default.is c.go.ensures.reaches
 
 pub returns-in_default-clause-chooses : goal.returns-in_default-clause-chooses
 returns-in_default-clause-chooses g c = λ _.
@@ -27,20 +26,6 @@ pub returns-then-in_place-clause-chooses : goal.returns-then-in_place-clause-cho
 returns-then-in_place-clause-chooses g c = λ _.
     record { found = Some c.in-Some.hart; between = c.go.new.self; reaches = c.in-Some.ensures.reaches; is = c.if-in_place.ensures; near = c.serve_near.ensures.near }
 
-pub returns-in-Some-hand_out-clause-asks : goal.returns-in-Some-hand_out-clause-asks
-returns-in-Some-hand_out-clause-asks g c =
-    let told = g.W.World.told in
-    goes c.in-Some.hart (Some c.in-Some-hand_out.job) (moment told c.args.self.now) (moment told c.go.new.self) (moment told c.hand_out.new.self) c.in-Some.ensures.reaches c.in-Some-hand_out.ensures.gives
-
-pub returns-in-Some-hand_out-clause-chooses : goal.returns-in-Some-hand_out-clause-chooses
-returns-in-Some-hand_out-clause-chooses g c = λ _.
-    record { found = Some c.in-Some.hart; between = c.go.new.self; reaches = c.in-Some.ensures.reaches; is = c.if-in_place.ensures; near = c.in-Some-hand_out.ensures.near }
-
-pub returns-in-None-clause-asks : goal.returns-in-None-clause-asks
-returns-in-None-clause-asks g c =
-    let told = g.W.World.told in
-    goes c.in-Some.hart None (moment told c.args.self.now) (moment told c.go.new.self) (moment told c.hand_out.new.self) c.in-Some.ensures.reaches c.in-None.ensures.gives
-
-pub returns-in-None-clause-chooses : goal.returns-in-None-clause-chooses
-returns-in-None-clause-chooses g c = λ _.
-    record { found = Some c.in-Some.hart; between = c.go.new.self; reaches = c.in-Some.ensures.reaches; is = c.if-in_place.ensures; near = c.in-None.ensures.near }
+pub returns-clause-chooses : goal.returns-clause-chooses
+returns-clause-chooses g c = λ _.
+    record { found = Some c.in-Some.hart; between = c.go.new.self; reaches = c.in-Some.ensures.reaches; is = c.if-in_place.ensures; near = refl }
