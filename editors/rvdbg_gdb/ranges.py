@@ -18,21 +18,16 @@ def jump_offset(word):
     return signed((word >> 31) << 20 | (word >> 12 & 0xFF) << 12 | (word >> 20 & 1) << 11 | (word >> 21 & 0x3FF) << 1, 21)
 
 
-def edges(word_at, pc, start, end):
-    """From pc on: the addresses outside of the range that come next to one in it, and the jumps in it to where a register says."""
-    exits, jumps, ahead, seen = set(), set(), [pc], set()
-    while ahead:
-        at = ahead.pop() & 0xFFFFFFFF
-        if not start <= at < end:
-            exits.add(at)
-        elif at not in seen:
-            seen.add(at)
-            word = word_at(at)
-            opcode = word & 0x7F
-            if opcode == JALR:
-                jumps.add(at)
-            elif opcode == JAL:
-                ahead.append(at + jump_offset(word))
-            else:
-                ahead += [at + 4] + ([at + branch_offset(word)] if opcode == BRANCH else [])
-    return exits, jumps
+def edges(code, start):
+    """The addresses outside of a range that come next to one in it, and those in it of jumps to where a register says."""
+    ahead, jumps, end = set(), set(), start + len(code)
+    for at in range(start, end, 4):
+        word = int.from_bytes(code[at - start : at - start + 4], "little")
+        opcode = word & 0x7F
+        if opcode == JALR:
+            jumps.add(at)
+        elif opcode == JAL:
+            ahead.add(at + jump_offset(word))
+        else:
+            ahead |= {at + 4, at + branch_offset(word)} if opcode == BRANCH else {at + 4}
+    return jumps | {it & 0xFFFFFFFF for it in ahead if not start <= it < end}

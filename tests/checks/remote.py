@@ -116,7 +116,7 @@ def check_pending(rig, name):
     for last, wanted in ((["Z0,10074,4"], "T05thread:2;swbreak:"), ([], "T05thread:1;swbreak:")):
         with Remote(rig, "--harts=2", "fault-gcc-O0", debugger=both).open() as remote:
             found = [remote.ask(it)[:20] for it in ["?", "Z0,10074,4", "vCont;c", "z0,10074,4", "vCont;s:1", *last, "vCont;c"]]
-            rig.row("%s: %s" % (name, wanted), (found[2], found[4], found[-1]), ("T05thread:1;swbreak:", "T05thread:1;20:74000", wanted))
+            rig.row("%s: %s" % (name, wanted), (found[2], found[4], found[-1]), ("T05thread:1;swbreak:", "T05thread:1;20:01000", wanted))
     with Remote(rig, "--harts=2", "fault-gcc-O0", debugger=both).open() as remote:
         remote.ask("QNonStop:1")
         rig.row(name + ": one at first", (remote.ask("?")[:13], remote.ask("vStopped")), ("T00thread:1;2", "OK"))
