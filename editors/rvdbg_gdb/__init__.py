@@ -1,1 +1,1 @@
-"""The bridge for GDB: `packets` is its side, `engine` the debugger's, `server` is between them, `stops` how stops are told."""
+"""The bridge for GDB: `packets` is its side, `engine` the debugger's, `server` and `stops` are between them."""

@@ -44,14 +44,14 @@ class Thread:
 
 
 class Engine:
-    """The debugger with one program. `stops` are those that GDB hasn't been told, by thread and in their order.
+    """The debugger with one program. `untold` are the stops that GDB hasn't been told, by thread and in their order.
 
     `current` is the number of the thread that GDB looks at, `monitored` what `monitor break` has set, `unsaid` what was
     written for GDB's console, and isn't there yet.
     """
 
     def __init__(self, words, inbox, copy):
-        self.threads, self.stops, self.monitored, self.current = {}, {}, {}, 1
+        self.threads, self.untold, self.monitored, self.current = {}, {}, {}, 1
         self.is_open = self.is_over = self.tells_exits = False
         self.exit_code, self.said = None, ""
         self.unsaid, self.points = b"", Points(self.ask)
@@ -108,9 +108,9 @@ class Engine:
             self.threads[int(fields["id"])] = Thread(int(fields["id"]))
         elif told.name == "thread-exited":
             thread = self.threads.pop(int(fields["id"]))
-            self.stops.pop(thread, None)
+            self.untold.pop(thread, None)
             if self.tells_exits:
-                self.stops[thread] = Stop(EXIT, 0, 0)
+                self.untold[thread] = Stop(EXIT, 0, 0)
             self.points.delete(thread.ends)
         elif told.name == "stopped" and fields["reason"].startswith("exited"):
             self.exit_code = int(fields.get("exit-code", "0"), 8)
@@ -122,10 +122,9 @@ class Engine:
         reason, number, is_mine = fields["reason"], fields.get("bkptno"), self.points.has(BREAKPOINT, pc)
         ends, thread.ends, thread.is_running = thread.ends, [], False
         self.points.delete(ends)
-        if reason == "signal-received" and fields["signal-name"] == "SIGINT":
-            stop = Stop(INTERRUPT, thread.asked or 0, pc)
-        elif reason == "signal-received":
-            stop = Stop(SIGNAL, SIGNALS[fields["signal-name"]], pc)
+        if reason == "signal-received":
+            signal = SIGNALS[fields["signal-name"]]
+            stop = Stop(INTERRUPT, thread.asked or 0, pc) if signal == SIGINT else Stop(SIGNAL, signal, pc)
         elif reason == "watchpoint-trigger":
             stop = Stop(WATCH, SIGTRAP, int(re.search("0x([0-9a-fA-F]+)", fields["wpt"]["exp"])[1], 16))
         elif number in self.monitored and not is_mine:
@@ -139,7 +138,7 @@ class Engine:
             stop = Stop(INTERRUPT, thread.asked, pc)
         else:
             return self.walk_on(thread, pc)
-        self.stops[thread] = stop
+        self.untold[thread] = stop
 
     def is_stale(self, stop):
         """Whether a stop is one for a breakpoint or a watch that GDB doesn't have any more."""

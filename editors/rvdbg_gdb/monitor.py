@@ -5,7 +5,8 @@ import re
 from rvdbg_dap.mi import Refused, c_string, need
 
 HELP = """monitor break LOCATION [if EXPR]: a breakpoint of the debugger, which judges EXPR at the speed of the program.
-  LOCATION is *ADDRESS, FILE:LINE or a function; EXPR is over registers, memory and symbols, as {int} &count == 3 && $a0 > 1.
+  LOCATION is *ADDRESS, FILE:LINE or a function; EXPR is over registers, memory and symbols, \
+as {int} &count == 3 && $a0 > 1.
 monitor delete N: takes it away.
 monitor breakpoints: lists them, with how often they were come to.
 monitor log FILE: at the end the session is stored there, and checked.

@@ -16,8 +16,8 @@ from rvdbg_gdb.stops import LATER, Stops
 
 MALFORMED = (ValueError, LookupError, OverflowError, struct.error)
 FEATURES = (
-    "PacketSize=4000;QStartNoAckMode+;QNonStop+;QThreadEvents+;qXfer:features:read+;qXfer:threads:read+;vContSupported+;"
-    "swbreak+;no-resumed+"
+    "PacketSize=4000;QStartNoAckMode+;QNonStop+;QThreadEvents+;qXfer:features:read+;qXfer:threads:read+;"
+    "vContSupported+;swbreak+;no-resumed+"
 )
 TYPES = {"ra": "code_ptr", "pc": "code_ptr", "sp": "data_ptr", "gp": "data_ptr", "tp": "data_ptr", "fp": "data_ptr"}
 DESCRIPTION = (
@@ -27,7 +27,7 @@ DESCRIPTION = (
 WORD, WORDS, SP = struct.Struct("<I"), struct.Struct("<%dI" % len(NAMES)), NAMES.index("sp")
 # What GDB writes below the stack before it has the program call a function (riscv_push_dummy_code of riscv-tdep.c).
 NOP, BELOW = bytes.fromhex("13000000"), 64
-EVERYONE, KINDS = ("", "-1", "0"), {0: BREAKPOINT, 2: WATCH}
+EVERYONE, KINDS = ("", "-1", "0"), {"c": "c", "C": "c", "s": "s", "S": "s", "r": "s"}
 # How long GDB has to be silent until its connection stands, and how long the end of a log may take, in seconds.
 LULL, LONG = 0.1, 600.0
 LONGEST_TEXT = 4096
@@ -137,6 +137,9 @@ class Server:
         if text[:1] == "g" and text[1:] not in EVERYONE:
             self.engine.current = self.engine.thread(*numbers(text[1:])).number
 
+    def on_threads(self, _):
+        return "m" + ",".join("%x" % it for it in self.engine.threads) if self.engine.threads else "l"
+
     def on_thread_document(self, text):
         rows = ['<thread id="%x" name="%s"/>' % (it.number, it.name) for it in self.engine.threads.values()]
         return window("<threads>%s</threads>" % "".join(rows), text)
@@ -185,15 +188,12 @@ class Server:
         self.engine.write_memory(address, whole)
         self.is_calling |= whole == NOP and 0 < self.registers(SP)[0] - address <= BELOW
 
-    def on_point(self, text, change):
-        """Sets or takes away a breakpoint or a watch. Other kinds aren't known."""
-        number, address, length = numbers(text)
-        if number not in KINDS:
-            return ""
-        change(self.engine.points, KINDS[number], address, length)
+    def on_point(self, text, change, kind):
+        """Sets or takes away a breakpoint or a watch: `,ADDRESS,LENGTH`."""
+        address, length = numbers(text[1:])
+        change(self.engine.points, kind, address, length)
         if self.engine.running():
             self.engine.points.settle()
-        return None
 
     # Running.
 
@@ -205,9 +205,10 @@ class Server:
             meant = left if who in EVERYONE else [self.engine.thread(*numbers(who))]
             chosen, left = [it for it in left if it in meant], [it for it in left if it not in meant]
             start, end = numbers(action[1:]) if action[0] == "r" else (0, 0)
-            kind = {"c": "c", "C": "c", "s": "s", "S": "s", "r": "s", "t": "t"}[action[0]]
-            halted += chosen if kind == "t" else []
-            groups += [((kind, start, end), chosen)] if kind != "t" else []
+            if action == "t":
+                halted += chosen
+            else:
+                groups.append(((KINDS[action[0]], start, end), chosen))
         for thread in halted:
             self.engine.interrupt(thread, 0)
         return self.stops.go(groups) if groups or not halted else None
@@ -221,7 +222,7 @@ PACKETS = {
     "QThreadEvents:": Server.on_thread_events,
     "qXfer:features:read:target.xml:": lambda server, text: window(DESCRIPTION, text),
     "qXfer:threads:read::": Server.on_thread_document,
-    "qfThreadInfo": lambda server, text: server.engine.threads and "m" + ",".join(map("{:x}".format, server.engine.threads)) or "l",
+    "qfThreadInfo": Server.on_threads,
     "qsThreadInfo": lambda server, text: "l",
     "qThreadExtraInfo,": lambda server, text: server.engine.thread(*numbers(text)).name.encode().hex(),
     "qAttached": lambda server, text: "0",
@@ -238,8 +239,10 @@ PACKETS = {
     "m": Server.on_read,
     "M": lambda server, text: server.on_write(text, bytes.fromhex),
     "X": lambda server, text: server.on_write(text, unescaped),
-    "Z": lambda server, text: server.on_point(text, Points.insert),
-    "z": lambda server, text: server.on_point(text, Points.remove),
+    "Z0": lambda server, text: server.on_point(text, Points.insert, BREAKPOINT),
+    "z0": lambda server, text: server.on_point(text, Points.remove, BREAKPOINT),
+    "Z2": lambda server, text: server.on_point(text, Points.insert, WATCH),
+    "z2": lambda server, text: server.on_point(text, Points.remove, WATCH),
     "vCont?": lambda server, text: "vCont;c;C;s;S;t;r",
     "vCont": Server.on_go,
     "vCtrlC": lambda server, text: server.take_interrupt(),

@@ -19,7 +19,8 @@ from rvdbg_gdb.server import LONG, Server
 CLONE = os.path.dirname(os.path.dirname(os.path.dirname(os.path.realpath(__file__))))
 USE = """Between GDB and rvdbg. In GDB: target remote | %(prog)s [--harts N] FILE"""
 NUMBERS = {"harts": 1, "workers": 0, "slots": 16, "budget": 10**12, "slice": 256}
-ADVICE = '. What a file has to be stands in README.md, under "A program of your own": above all no compressed instructions'
+UNBUILT = "the debugger isn't built yet. %s FILE </dev/null builds it, which takes 20 to 55 minutes"
+ADVICE = '. README.md says what a file has to be, under "A program of your own": above all no compressed instructions'
 # A longer output isn't checked (docs/FORMATS.md, "Checking a log").
 LONGEST_LOG = 64 << 20
 
@@ -28,7 +29,7 @@ def words():
     parser = argparse.ArgumentParser(prog="rvdbg-gdb", description=USE, allow_abbrev=False)
     for name, default in NUMBERS.items():
         parser.add_argument("--" + name, metavar="N", type=int, default=default, help="as of rvdbg, else %(default)s")
-    parser.add_argument("--port", metavar="N", type=int, help="wait for GDB at this TCP port of this machine; 0: a free one")
+    parser.add_argument("--port", metavar="N", type=int, help="wait for GDB at this TCP port of this machine; 0: any")
     parser.add_argument("--log", metavar="FILE", help="store the session in FILE at its end, and check it")
     parser.add_argument("--rvdbg", metavar="PROGRAM", default=os.path.join(CLONE, "rvdbg"), help="the debugger")
     parser.add_argument("program", metavar="FILE", help="the program: an ELF32 executable for RISC-V")
@@ -36,7 +37,7 @@ def words():
 
 
 class Log:
-    """The output of a session, in a file without a name, and the path that the user wants it to be stored at, if any."""
+    """The output of a session, in a file without a name, and the path where it is to be stored at the end, if any."""
 
     def __init__(self, asked):
         self.check, self.path, self.file = [asked.rvdbg, "--check=" + asked.program], None, tempfile.TemporaryFile()
@@ -49,12 +50,8 @@ class Log:
         """The output has ended."""
 
     def want(self, path):
-        """The session is to be stored there, and to be checked."""
         path = os.path.abspath(os.path.expanduser(path))
-        try:
-            open(path, "wb").close()
-        except OSError as error:
-            raise Refused("%s can't be written: %s" % (path, error.strerror)) from error
+        need(os.access(os.path.dirname(path), os.W_OK) and not os.path.isdir(path), "%s can't be written", path)
         self.path = path
 
     def verdict(self):
@@ -63,10 +60,10 @@ class Log:
             return "the output has more than 64 MiB, which isn't checked"
         try:
             self.file.seek(0)
-            with open(self.path, "wb") as stored:
+            with open(self.path, "w+b") as stored:
                 shutil.copyfileobj(self.file, stored)
-            self.file.seek(0)
-            ran = subprocess.run(self.check, stdin=self.file, stdout=subprocess.PIPE, timeout=LONG)
+                stored.seek(0)
+                ran = subprocess.run(self.check, stdin=stored, stdout=subprocess.PIPE, timeout=LONG)
         except (OSError, subprocess.SubprocessError) as error:
             return "no log: %r" % error
         said = ran.stdout.decode("utf-8", "replace").strip()
@@ -76,23 +73,20 @@ class Log:
 def opened(asked, inbox, log):
     """A debugger that has accepted the program."""
     need(os.path.isfile(asked.program), "there is no file %s", asked.program)
+    need(os.access(asked.rvdbg, os.X_OK), "%s doesn't start: it isn't there, or no program", asked.rvdbg)
     if asked.log:
         log.want(asked.log)
     options = ["--%s=%d" % (it, getattr(asked, it)) for it in NUMBERS]
-    try:
-        engine = Engine([asked.rvdbg, *options, "--log", "--", asked.program], inbox, log)
-    except OSError as error:
-        raise Refused("%s doesn't start: %s" % (asked.rvdbg, error.strerror)) from error
+    engine = Engine([asked.rvdbg, *options, "--log", "--", asked.program], inbox, log)
     while not engine.is_open and not engine.is_over and "proving and building" not in engine.said:
         _, kind, *rest = inbox.get()
         getattr(engine, "take_" + kind)(*rest)
-    if engine.is_open:
-        return engine
-    engine.debugger.stop(False)
-    unbuilt = "the debugger isn't built yet. %s FILE </dev/null builds it, which takes 20 to 55 minutes"
-    need(engine.is_over, unbuilt, asked.rvdbg)
-    said = re.sub("^rvdbg: ", "", engine.said) or "the debugger ended with status %s" % engine.debugger.status()
-    raise Refused(said + ADVICE * said.startswith("Not an accepted ELF file"))
+    if not engine.is_open:
+        engine.debugger.stop(False)
+        need(engine.is_over, UNBUILT, asked.rvdbg)
+        said = re.sub("^rvdbg: ", "", engine.said) or "the debugger ended with status %s" % engine.debugger.status()
+        raise Refused(said + ADVICE * said.startswith("Not an accepted ELF file"))
+    return engine
 
 
 def accepted(port):

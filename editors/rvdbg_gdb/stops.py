@@ -27,7 +27,7 @@ class Stops:
         if stop.kind == EXIT:
             return "w00;%x" % thread.number
         kind, at, fired = stop.kind, stop.at, self.engine.points.fired()
-        others = [it for it in self.engine.stops.values() if it.kind in (BREAKPOINT, WATCH)]
+        others = [it for it in self.engine.untold.values() if it.kind in (BREAKPOINT, WATCH)]
         if kind == BREAKPOINT and fired is not None and not others and not self.engine.running():
             kind, at = WATCH, fired
         why = {BREAKPOINT: "swbreak:;", WATCH: "watch:%x;" % at}.get(kind, "")
@@ -53,18 +53,18 @@ class Stops:
         if first is None or not self.is_non_stop:
             return self.reply(first, Stop(STEP, SIGTRAP, 0)) if first else self.end() or "OK"
         self.is_opening, self.is_waiting, self.sent = True, False, first
-        self.engine.stops.update({it: Stop(INTERRUPT, 0, 0) for it in others})
+        self.engine.untold.update({it: Stop(INTERRUPT, 0, 0) for it in others})
         return self.reply(first, Stop(INTERRUPT, 0, 0))
 
     def go(self, groups):
         """Threads go on. One whose stop GDB hasn't heard of stands: it hears of it now, in all-stop mode before any."""
-        stops, self.resumed = self.engine.stops, [it for _, threads in groups for it in threads]
+        untold, self.resumed = self.engine.untold, [it for _, threads in groups for it in threads]
         if not self.is_non_stop:
-            for thread in [it for it in self.resumed if it in stops and self.engine.is_stale(stops[it])]:
-                del stops[thread]
-            groups = [] if any(it in stops for it in self.resumed) else groups
+            for thread in [it for it in self.resumed if it in untold and self.engine.is_stale(untold[it])]:
+                del untold[thread]
+            groups = [] if any(it in untold for it in self.resumed) else groups
         for action, threads in groups:
-            there = [it for it in threads if not it.is_running and it not in stops and it is not self.sent]
+            there = [it for it in threads if not it.is_running and it not in untold and it is not self.sent]
             self.engine.resume(there, action)
         self.is_opening, self.is_waiting = False, self.is_waiting or not self.is_non_stop
         return None if self.is_non_stop else LATER
@@ -75,23 +75,22 @@ class Stops:
         Of what else has stopped by then a breakpoint, a watch or a trap is told when its thread is to go on; of a step
         or an interrupt nothing is told.
         """
-        engine, is_all_stop, running = self.engine, not self.is_non_stop, self.engine.running()
-        ready = [it for it in engine.stops if self.is_non_stop or it in self.resumed]
         if not self.is_waiting or self.is_opening:
             return None
+        engine, is_all_stop, running = self.engine, not self.is_non_stop, self.engine.running()
+        ready = [it for it in engine.untold if self.is_non_stop or it in self.resumed]
         if is_all_stop and running and not engine.is_over:
-            for thread in running if ready else ():
-                if thread.asked is None:
-                    engine.interrupt(thread, 0)
+            for thread in [it for it in running if ready and it.asked is None]:
+                engine.interrupt(thread, 0)
             return None
         for thread in ready if not engine.is_over else ():
-            stop = self.as_it_stands(thread, engine.stops.pop(thread))
+            stop = self.as_it_stands(thread, engine.untold.pop(thread))
             if stop:
                 text = self.reply(thread, stop)
+                self.sent = thread if self.is_non_stop else None
                 if is_all_stop:
                     engine.current = thread.number
-                    engine.stops = {it: stop for it, stop in engine.stops.items() if stop.kind not in (STEP, INTERRUPT)}
-                self.sent = None if is_all_stop else thread
+                    engine.untold = {it: why for it, why in engine.untold.items() if why.kind not in (STEP, INTERRUPT)}
                 return text
         return self.end() or ("N" if is_all_stop and engine.threads and not engine.running() else None)
 
