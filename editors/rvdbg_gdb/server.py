@@ -14,7 +14,7 @@ from rvdbg_gdb.packets import framed, numbers, unescaped, window
 from rvdbg_gdb.points import BREAKPOINT, WATCH, Points
 from rvdbg_gdb.stops import LATER, Stops
 
-MALFORMED = (ValueError, LookupError, OverflowError, struct.error)
+MALFORMED = (ValueError, TypeError, LookupError, OverflowError, struct.error)
 FEATURES = (
     "PacketSize=4000;QStartNoAckMode+;QNonStop+;QThreadEvents+;qXfer:features:read+;qXfer:threads:read+;"
     "vContSupported+;swbreak+;no-resumed+"
