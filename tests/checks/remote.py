@@ -79,7 +79,7 @@ def check_acknowledgements(rig, name):
 
 MALFORMED = (
     "m m1 m,4 mzz,4 m-1,4 m10074,4,4 M0 M0,4:00 M20000,1:zz X0,2:a P P001 P021=00000000 Pff=00000000 P001=000000 P020=00000000 P0=01000000 "
-    "p p99 p1,2 G G12 Z0 Z0,zz,4 Z0,11,4 Z2,0 Z2,10074,4 z0 vCont;x vCont;s:77 vCont;r1:1 vCont;r5:1 vCont;:1 Hgzz Hg77 Hg1,2 T T99 T1,2 "
+    "p p99 p1,2 G G12 Z0 Z0,zz,4 Z0,11,4 Z2,0 Z2,10074,4 z0 vCont;x vCont;s:77 vCont;r1:1 vCont;r5:1 vCont;:1 Hgzz Hg77 Hg1,2 T T99 T99,2 "
     "Tx qRcmd,zz qRcmd,f "
     "QNonStop:2 vStopped qXfer:features:read:target.xml:0 qXfer:threads:read::zz,1 qThreadExtraInfo,9"
 ).split()
