@@ -1,1 +1,1 @@
-"""The bridge for GDB: `packets` is GDB's side, `engine` the debugger's, `server` what is between them, `start` the command line."""
+"""The bridge for GDB: `packets` is its side, `engine` the debugger's, `server` and `stops` are between them."""

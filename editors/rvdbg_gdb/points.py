@@ -1,95 +1,71 @@
-"""Breakpoints and watchpoints: which of them GDB wants, which the user set by `monitor`, and their numbers in the debugger."""
+"""Breakpoints and watchpoints that GDB wants, and their numbers in the debugger."""
 
 from rvdbg_dap.mi import Refused
 
-BREAKPOINT, WATCHPOINT = 0, 2
+BREAKPOINT, WATCH = "breakpoint", "watch"
 TYPES = ((4, "int"), (2, "short"), (1, "char"))
 
 
-def watches(address, length):
-    """The expressions that cover so many bytes: the debugger watches up to four at once."""
-    found = []
-    while length > 0:
+def lines_of(kind, address, length):
+    """The debugger's lines for one of them: it watches up to four bytes at once."""
+    if kind == BREAKPOINT:
+        yield "-break-insert *0x%x" % address
+    while kind == WATCH and length > 0:
         size, name = next(it for it in TYPES if it[0] <= length)
-        found.append("{%s} 0x%x" % (name, address))
+        yield "-break-watch {%s} 0x%x" % (name, address)
         address, length = address + size, length - size
-    return found
 
 
 class Points:
-    """They are known by kind, address and length.
+    """They are known by kind, address and length. `numbers` has those that stand, `times` how often watches have fired.
 
-    GDB takes all of its breakpoints away at each stop, and puts them back before it goes on. So one that is taken away while no hart
-    runs is deleted only when one is to run, unless it is wanted again by then.
+    GDB takes all of its breakpoints away at each stop, and puts them back before it goes on. So one that isn't `wanted`
+    any more is deleted only when a hart is to run.
     """
 
     def __init__(self, ask):
-        self.ask, self.numbers, self.dropped, self.monitored = ask, {}, set(), {}
-        self.times, self.is_unsure = {}, False
+        self.ask, self.numbers, self.wanted, self.times = ask, {}, set(), {}
 
-    def insert(self, kind, address, length):
-        """GDB wants this one. All of its parts stand then, or none."""
-        key = kind, address, length
-        self.dropped.discard(key)
-        if key in self.numbers:
-            return
-        self.numbers[key] = []
-        try:
+    def insert(self, *key):
+        if key not in self.numbers:
             self.settle()
-            if kind == BREAKPOINT:
-                self.numbers[key].append(self.ask("-break-insert *0x%x" % address).fields["bkpt"]["number"])
-            for expression in watches(address, length) if kind == WATCHPOINT else ():
-                self.numbers[key].append(self.ask("-break-watch " + expression).fields["wpt"]["number"])
-        except Refused:
-            self.delete(self.numbers.pop(key))
-            raise
+            self.numbers[key] = self.make(lines_of(*key))
+        self.wanted.add(key)
 
-    def remove(self, kind, address, length, is_quiet):
-        """GDB wants this one no more; `is_quiet` where no hart runs."""
-        key = kind, address, length
-        if key in self.numbers:
-            self.dropped.add(key)
-        if not is_quiet:
-            self.settle()
+    def remove(self, *key):
+        self.wanted.discard(key)
 
     def settle(self):
         """Deletes what isn't wanted any more."""
-        dropped, self.dropped = sorted(self.dropped), set()
-        self.delete([number for key in dropped for number in self.numbers.pop(key)])
+        self.delete([number for key in set(self.numbers) - self.wanted for number in self.numbers.pop(key)])
+
+    def make(self, lines):
+        """Has the debugger make breakpoints, all or none, and gives their numbers."""
+        made = []
+        try:
+            for line in lines:
+                (fields,) = self.ask(line).fields.values()
+                made.append(fields["number"])
+        except Refused:
+            self.delete(made)
+            raise
+        return made
 
     def delete(self, numbers):
-        """Deletes breakpoints of the debugger by their numbers."""
         if numbers:
             self.ask("-break-delete " + " ".join(numbers))
 
-    def wanted(self):
-        """What GDB wants."""
-        return [key for key in self.numbers if key not in self.dropped]
+    def rows(self):
+        """What the debugger says of all breakpoints and watches."""
+        return self.ask("-break-list").fields["BreakpointTable"]["body"]
 
-    def has_watches(self):
-        """Whether GDB watches anything."""
-        return any(kind == WATCHPOINT for kind, _, _ in self.wanted())
+    def has(self, kind, address):
+        """Whether GDB has a breakpoint there, or watches the byte there."""
+        return any(it == kind and at <= address < at + length for it, at, length in self.wanted)
 
-    def fired(self, number):
-        """A watch has stopped a thread."""
-        self.times[number] = self.times.get(number, 0) + 1
-
-    def hidden(self, is_sure):
-        """Where a watch fired that hasn't stopped a thread, or None: of one arrival the debugger tells the breakpoint alone.
-
-        It is told of a thread that has come to a breakpoint, and only where it can be of no other one.
-        """
-        is_sure, self.is_unsure = is_sure and not self.is_unsure, not is_sure
-        places = {number: at for (kind, at, _), numbers in self.numbers.items() if kind == WATCHPOINT for number in numbers}
-        rows = self.ask("-break-list").fields["BreakpointTable"]["body"] if places else []
-        found = [it["number"] for it in rows if it["number"] in places and int(it["times"]) > self.times.get(it["number"], 0)]
-        self.times.update({it["number"]: int(it["times"]) for it in rows})
-        return places[found[0]] if found and is_sure else None
-
-    def is_breakpoint(self, address):
-        """Whether GDB has a breakpoint there."""
-        return any(kind == BREAKPOINT and at == address for kind, at, _ in self.wanted())
-
-    def is_watched(self, address):
-        """Whether GDB watches the byte there."""
-        return any(kind == WATCHPOINT and at <= address < at + length for kind, at, length in self.wanted())
+    def fired(self):
+        """Where a watch has fired since this was asked last, or None."""
+        places = {it: at for (kind, at, _), numbers in self.numbers.items() if kind == WATCH for it in numbers}
+        rows = [it for it in self.rows() if it["number"] in places] if places else []
+        before, self.times = self.times, {it["number"]: int(it["times"]) for it in rows}
+        return next((places[it] for it, count in self.times.items() if count > before.get(it, 0)), None)

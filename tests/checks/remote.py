@@ -79,7 +79,8 @@ def check_acknowledgements(rig, name):
 
 MALFORMED = (
     "m m1 m,4 mzz,4 m-1,4 m10074,4,4 M0 M0,4:00 M20000,1:zz X0,2:a P P001 P021=00000000 Pff=00000000 P001=000000 P020=00000000 P0=01000000 "
-    "p p99 G G12 Z0 Z0,zz,4 Z0,11,4 Z2,0 Z2,10074,4 z0 vCont;x vCont;s:77 vCont;r1:1 vCont;r5:1 vCont;:1 Hgzz Hg77 T T99 Tx qRcmd,zz qRcmd,f "
+    "p p99 p1,2 G G12 Z0 Z0,zz,4 Z0,11,4 Z2,0 Z2,10074,4 z0 vCont;x vCont;s:77 vCont;r1:1 vCont;r5:1 vCont;:1 Hgzz Hg77 Hg1,2 T T99 T99,2 "
+    "Tx qRcmd,zz qRcmd,f "
     "QNonStop:2 vStopped qXfer:features:read:target.xml:0 qXfer:threads:read::zz,1 qThreadExtraInfo,9"
 ).split()
 UNKNOWN = (
@@ -116,7 +117,7 @@ def check_pending(rig, name):
     for last, wanted in ((["Z0,10074,4"], "T05thread:2;swbreak:"), ([], "T05thread:1;swbreak:")):
         with Remote(rig, "--harts=2", "fault-gcc-O0", debugger=both).open() as remote:
             found = [remote.ask(it)[:20] for it in ["?", "Z0,10074,4", "vCont;c", "z0,10074,4", "vCont;s:1", *last, "vCont;c"]]
-            rig.row("%s: %s" % (name, wanted), (found[2], found[4], found[-1]), ("T05thread:1;swbreak:", "T05thread:1;20:74000", wanted))
+            rig.row("%s: %s" % (name, wanted), (found[2], found[4], found[-1]), ("T05thread:1;swbreak:", "T05thread:1;20:01000", wanted))
     with Remote(rig, "--harts=2", "fault-gcc-O0", debugger=both).open() as remote:
         remote.ask("QNonStop:1")
         rig.row(name + ": one at first", (remote.ask("?")[:13], remote.ask("vStopped")), ("T00thread:1;2", "OK"))
