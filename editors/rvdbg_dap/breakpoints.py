@@ -7,7 +7,7 @@ import re
 from rvdbg_dap.engine import Part
 from rvdbg_dap.memory import place
 from rvdbg_dap.mi import Refused, c_string, need
-from rvdbg_dap.values import unknown_name, zeros
+from rvdbg_dap.values import bare_names, zeros
 
 # N and >= N mean from the N-th arrival on, > N behind it, == N only at it.
 HITS = re.compile(r"\s*(>=|>|==|)\s*(\d{1,9})\s*")
@@ -28,22 +28,22 @@ class Breakpoint:
     def clear(self, why):
         """It isn't in the debugger. `is_judged` says that the adapter judges, and `early` for which threads alone."""
         self.number, self.state, self.early, self.said = None, ("y", None), set(), set()
-        self.is_spent = self.is_judged = self.is_looked_at = False
+        self.is_spent, self.is_looked_at, self.is_judged = False, False, bool(bare_names(self.condition or ""))
         self.told = {"id": self.identity, "verified": False, "message": why}
 
-    def command(self, place, condition, more=""):
-        """The line that sets it, with this condition."""
+    def command(self, place):
+        """The line that sets it. A condition over names is checked without them, while it's off."""
         if self.group == "data":
             is_plain = self.is_write and not self.condition and not self.hits
             need(is_plain, "a watch is of writes, and has neither a condition nor a count")
             return "-break-watch " + c_string(place)
+        more = "-d " if self.is_judged else "-t " if self.is_once else ""
+        more += "-c %s " % c_string(zeros(self.condition)) if self.condition else ""
         if self.hits:
             found = HITS.fullmatch(self.hits)
             count = int(found[2]) - (found[1] != ">") if found else -1
             need(count >= 0, "a hit condition is N, >= N, > N or == N, not %s", self.hits)
             more += "-i %d " % count
-        more += "-t " if self.is_once and not self.is_judged else ""
-        more += "-c %s " % c_string(condition) if condition else ""
         return "-break-insert " + more + c_string(place)
 
 
@@ -82,19 +82,13 @@ class Breakpoints(Part):
                 self.ask("-break-delete " + it.number)
 
     def insert(self, it):
-        """Sets one in the debugger, or says at it why not. A condition over names is left to the adapter."""
+        """Sets one in the debugger, or says at it why not."""
         try:
-            place = self.engine.sources.location(it.place) if it.source else it.place
-            try:
-                made = self.ask(it.command(place, it.condition))
-            except Refused as refusal:
-                unknown_name(it.condition or "", refusal)
-                it.is_judged = True
-                made = self.ask(it.command(place, zeros(it.condition), "-d "))
-                for line in ("-break-condition ", "-break-enable "):
-                    self.ask(line + made["bkpt"]["number"])
-                made["bkpt"].update(enabled="y", cond=None)
-            self.take(it, made.get("wpt") or made["bkpt"])
+            made = self.ask(it.command(self.engine.sources.location(it.place) if it.source else it.place))
+            row = made.get("wpt") or made["bkpt"]
+            for line in ("-break-condition ", "-break-enable ") if it.is_judged else ():
+                self.ask(line + row["number"])
+            self.take(it, row if not it.is_judged else dict(row, enabled="y", cond=None))
         except Refused as refusal:
             it.clear(str(refusal))
 
@@ -117,30 +111,31 @@ class Breakpoints(Part):
             self.remove(it)
         for it in self.all:
             self.insert(it)
-            self.event("breakpoint", reason="changed", breakpoint=it.told)
+            self.tell("changed", it)
+
+    def tell(self, reason, it):
+        self.event("breakpoint", reason=reason, breakpoint=it.told)
 
     def remove(self, it):
         """One is no more."""
         self.all.remove(it)
-        self.event("breakpoint", reason="removed", breakpoint=it.told)
+        self.tell("removed", it)
 
     def spend(self, it):
         """One that was for one stop has made it."""
-        if it.is_once:
-            self.delete(it)
+        self.delete(it)
         it.number, it.is_spent, it.told["message"] = None, True, "it has made its one stop"
         if it.group == CONSOLE:
             self.remove(it)
         else:
-            self.event("breakpoint", reason="changed", breakpoint=it.told)
+            self.tell("changed", it)
 
     def hand_over(self, it, condition):
-        """Has the debugger judge a condition, where it can."""
-        with contextlib.suppress(Refused):
-            self.ask("-break-condition %s %s" % (it.number, c_string(condition)))
-            it.is_judged, it.state, rows = False, (it.state[0], condition), self.ask("-thread-info")["threads"]
-            stand = {int(row["id"]) for row in rows if row["state"] == "stopped"}
-            it.early = {key for key in stand & {*self.engine.threads} if self.engine.threads[key].is_running}
+        """Has the debugger judge a condition. Threads that stand there already are judged by the adapter."""
+        self.ask("-break-condition %s %s" % (it.number, c_string(condition)))
+        it.is_judged, it.state, rows = False, (it.state[0], condition), self.ask("-thread-info")["threads"]
+        stand = {int(row["id"]) for row in rows if row["state"] == "stopped"}
+        it.early = {key for key in stand & {*self.engine.threads} if self.engine.threads[key].is_running}
 
     def agree(self):
         """Behind a line of the console: what came, went or changed in the debugger is told to the editor."""
@@ -161,7 +156,7 @@ class Breakpoints(Part):
             if state != ("y", None):
                 is_on = state[0] == "y"
                 it.told.update(verified=is_on, message="on if %s" % state[1] if is_on else "off by the console")
-            self.event("breakpoint", reason=reason, breakpoint=it.told)
+            self.tell(reason, it)
 
     def on_set_breakpoints(self, arguments):
         source, rows = arguments["source"], arguments.get("breakpoints")

@@ -8,6 +8,7 @@ from rvdbg_dap.sources import Sources
 
 # The events that only some editors take, and by which word these say so.
 ASKED = {"memory": "supportsMemoryEvent", "invalidated": "supportsInvalidatedEvent"}
+ASKED.update(dict.fromkeys(("progressStart", "progressUpdate", "progressEnd"), "supportsProgressReporting"))
 
 
 class Thread:
@@ -23,7 +24,7 @@ class Engine:
 
     def __init__(self, inbox):
         self.client, self.sources, self.hears, self.threads, self.after = Client(inbox), Sources(), {}, {}, []
-        self.launch = self.program = self.debugger = self.last = None
+        self.launch = self.program = self.debugger = self.last = self.request = None
         self.is_open, self.deadline = False, 0.0
 
     def reply(self, command):
@@ -42,7 +43,6 @@ class Engine:
         return result.fields
 
     def thread(self, identity):
-        """The thread of that number."""
         need(identity in self.threads, "there is no thread %.20r", identity)
         return self.threads[identity]
 
@@ -51,22 +51,20 @@ class Engine:
         return [it for it in self.threads.values() if not it.is_running]
 
     def event(self, event, **body):
-        """Tells the editor what happens, where it takes that."""
+        """Tells the editor what happens, where it takes that: behind the answer to a request that is being done."""
         if event not in ASKED or self.hears.get(ASKED[event]):
-            self.client.send(type="event", event=event, body=body)
-
-    def later(self, event, **body):
-        """Tells an event behind the answer."""
-        self.after.append(lambda: self.event(event, **body))
+            send = self.after.append if self.request else self.client.send
+            send({"type": "event", "event": event, "body": body})
 
     def say(self, text, category="console", **place):
-        """Puts a line where the editor shows output."""
-        self.event("output", category=category, output=text + "\n", **place)
+        """Puts a line where the editor shows output, at once."""
+        body = dict(category=category, output=text + "\n", **place)
+        self.client.send({"type": "event", "event": "output", "body": body})
 
     def written(self, address, count):
-        """Tells behind the answer that memory was written, of which views are made."""
-        self.later("memory", memoryReference="0x%08x" % address, offset=0, count=count)
-        self.later("invalidated", areas=["variables"])
+        """Tells that memory was written, of which views are made."""
+        self.event("memory", memoryReference="0x%08x" % address, offset=0, count=count)
+        self.event("invalidated", areas=["variables"])
 
 
 class Part:

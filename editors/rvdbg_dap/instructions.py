@@ -24,9 +24,10 @@ FORMS = {
     (0x100073,): ("ebreak", ""),
 }
 AMOS = {0: "add", 1: "swap", 4: "xor", 8: "or", 12: "and", 16: "min", 20: "max", 24: "minu", 28: "maxu"}
-for it in range(128):
-    if it >> 2 in AMOS:
-        FORMS[AMO, it] = ("- - amo%s.w%s" % (AMOS[it >> 2], ("", ".rl", ".aq", ".aqrl")[it & 3]), "{rd},{rs2},({rs1})")
+for code, amo in AMOS.items():
+    for bits, order in enumerate(("", ".rl", ".aq", ".aqrl")):
+        FORMS[AMO, code << 2 | bits] = ("- - amo%s.w%s" % (amo, order), "{rd},{rs2},({rs1})")
+ACCESSES = {LOAD: ("loads from", "number"), STORE: ("stores to", "stored"), AMO: ("changes", "")}
 FLOATS = (0x07, 0x27, 0x43, 0x47, 0x4B, 0x4F, 0x53)
 CSRS = "system csrrw csrrs csrrc system csrrwi csrrsi csrrci".split()
 
@@ -66,7 +67,8 @@ class Instruction:
             return "floating point, which this machine hasn't: -march=rv32ima -mabi=ilp32"
         return "no instruction of this machine"
 
-    def access(self):
-        """What it does to memory, and at which distance from the register rs1; None where it does nothing there."""
-        found = {LOAD: ("loads from", "number"), STORE: ("stores to", "stored"), AMO: ("changes", "")}.get(self.opcode)
-        return found and (found[0], self.fields.get(found[1], 0))
+    def access(self, registers):
+        """What it does to memory if the registers hold this, or an empty text."""
+        what, more = ACCESSES.get(self.opcode, ("", ""))
+        address = (registers[self.word >> 15 & 31] + self.fields.get(more, 0)) % (1 << 32)
+        return " %s 0x%08x" % (what, address) if what else ""

@@ -47,10 +47,13 @@ class Launch:
         alone, folders = arguments.get("singleThread", "never"), arguments.get("sourcePath") or []
         need(alone in ALONE, "singleThread is one of %s, not %.50s", ", ".join(ALONE), alone)
         self.alone, self.stops = ALONE[alone], bool(arguments.get("stopOnEntry"))
-        self.folders = [folders] if isinstance(folders, str) else folders
-        others = [it for it in arguments if it not in KNOWN | EDITORS and not it.startswith(("__", "dap-"))]
-        like = {it: ": is `%s` meant?" % near for it in others for near in difflib.get_close_matches(it, KNOWN, 1)}
-        self.unknown = ["there is no launch argument `%s`%s" % (it, like.get(it, "")) for it in others]
+        folders = [folders] if isinstance(folders, str) else folders
+        self.folders = [full(it) for it in folders or [os.path.dirname(self.program), os.getcwd()]]
+        self.unknown = []
+        for it in arguments:
+            if it not in KNOWN | EDITORS and not it.startswith(("__", "dap-")):
+                like = [": is `%s` meant?" % near for near in difflib.get_close_matches(it, KNOWN, 1)]
+                self.unknown.append("there is no launch argument `%s`%s" % (it, "".join(like)))
 
     def verdict(self):
         """Has the log of a session that is over checked and drawn, and gives what is to be said of it."""

@@ -44,7 +44,7 @@ class Memory(Part):
         for at in range(0, len(content), WRITE_PIECE):
             piece = content[at : at + WRITE_PIECE].hex()
             self.ask("-data-write-memory-bytes 0x%08x %s" % ((begins + at) % WORD, piece))
-        self.engine.later("invalidated", areas=["variables"])
+        self.event("invalidated", areas=["variables"])
         return {"bytesWritten": len(content)}
 
     def on_disassemble(self, arguments):
@@ -64,11 +64,13 @@ class Memory(Part):
         told, found, program = {"address": "0x%08x" % address}, self.found(address), self.engine.program
         if found is None:
             return dict(told, instruction="no instruction", presentationHint="invalid")
-        text, row = found.text() or ".word 0x%08x" % found.word, program.lines.at(address)
+        text, near, row = found.text() or ".word 0x%08x" % found.word, program.near(address), program.lines.at(address)
         goes = re.search(r",0x([0-9a-f]{8})$", text)
-        near = [" <%s>" % it for it in ([program.near(int(goes[1], 16))] if goes else []) if it]
-        told.update(instructionBytes=found.word.to_bytes(4, "little").hex(), instruction=text + "".join(near))
-        told.update({"symbol": program.near(address)} if has_symbol is not False and program.near(address) else {})
+        there = goes and program.near(int(goes[1], 16))
+        told["instruction"] = "%s <%s>" % (text, there) if there else text
+        told["instructionBytes"] = found.word.to_bytes(4, "little").hex()
+        if near and has_symbol is not False:
+            told["symbol"] = near
         return dict(told, location=self.engine.sources.source(row.path, address), line=row.line) if row else told
 
     def trap(self, pc, registers):
@@ -76,8 +78,7 @@ class Memory(Part):
         found = self.found(pc)
         if found is None:
             return "there is no instruction at 0x%08x" % pc
-        text, access = found.text(), found.access()
+        text = found.text()
         if text is None:
             return "at 0x%08x is %s" % (pc, found.foreign())
-        what = " %s 0x%08x" % (access[0], (registers[found.word >> 15 & 31] + access[1]) % WORD) if access else ""
-        return "`%s` at 0x%08x%s" % (text, pc, what)
+        return "`%s` at 0x%08x%s" % (text, pc, found.access(registers))

@@ -19,34 +19,32 @@ class Framing:
         self.bytes = bytearray()
 
     def add(self, piece):
-        """Yields what has come whole: `("message", object)`, or `("bad", text, object or None)`."""
+        """Yields what has come whole: `("message", object, what is wrong with it)`, with an empty object for none."""
         self.bytes += piece
         while header := HEADER.search(self.bytes):
-            begins, one = header.start(), ("bad", "bytes that are no message were passed over", None)
-            if IDLE.fullmatch(self.bytes, 0, begins):
-                one, used = self.message(header.end(), int(header[1][:12]))
-                begins = header.end() + used
-            if one is None:
+            found, ends = ({}, "bytes that are no message were passed over"), header.start()
+            if IDLE.fullmatch(self.bytes, 0, header.start()):
+                found, ends = self.message(header.end(), int(header[1][:12]))
+            if found is None:
                 return
-            del self.bytes[:begins]
-            yield one
+            del self.bytes[:ends]
+            yield ("message", *found)
         if len(self.bytes) > LONGEST_HEADERS:
             self.bytes.clear()
 
     def message(self, begins, length):
-        """The message there and its bytes, or None while more is to come. The length of a short one may be wrong."""
+        """The message there and its end, or None while more is to come. The length of a short one may be wrong."""
         came = len(self.bytes) - begins
         is_whole = came >= length or length > LONGEST
         if not is_whole and (came > LONGEST_HEADERS or not self.bytes.rstrip().endswith(b"}")):
-            return None, 0
+            return None, begins
         value, text = None, self.bytes[begins:].decode("utf-8", "surrogateescape")
         with contextlib.suppress(ValueError, RecursionError):
             value, end = json.JSONDecoder().raw_decode(text)
         if not isinstance(value, dict):
-            return ("bad", "a message is no JSON object", None) if is_whole else None, 0
+            return ({}, "a message is no JSON object") if is_whole else None, begins
         used = len(text[:end].encode("utf-8", "surrogateescape"))
-        is_fine = used <= length
-        return ("message", value) if is_fine else ("bad", "a message is longer than its header says", value), used
+        return (value, "a message is longer than its header says" if used > length else None), begins + used
 
 
 class Client:
@@ -67,10 +65,10 @@ class Client:
                 time.sleep(0.01)
         self.inbox.put((self, "gone"))
 
-    def send(self, **message):
+    def send(self, message):
         self.seq += 1
         # Half a surrogate, which stands for a byte that isn't UTF-8, isn't JSON to every editor, and is replaced.
-        text = json.dumps(dict(seq=self.seq, **message), ensure_ascii=False).encode("utf-8", "replace")
+        text = json.dumps(dict(message, seq=self.seq), ensure_ascii=False).encode("utf-8", "replace")
         body = json.dumps(json.loads(text)).encode()
         whole = b"Content-Length: %d\r\n\r\n%s" % (len(body), body)
         while whole:
@@ -82,4 +80,4 @@ class Client:
         if error is not None:
             body = {"error": {"id": 1, "format": re.sub("[{}]", "", error), "showUser": True}}
             message["message"] = error
-        self.send(**message, **({} if body is None else {"body": body}))
+        self.send(message if body is None else dict(message, body=body))

@@ -8,24 +8,17 @@ import sys
 import time
 
 from rvdbg_dap.breakpoints import Breakpoints
-from rvdbg_dap.engine import Engine, Part, Thread
+from rvdbg_dap.engine import Engine, Thread
 from rvdbg_dap.launch import Launch
 from rvdbg_dap.memory import Memory
 from rvdbg_dap.mi import Debugger, Refused, need, record, stream
-from rvdbg_dap.program import Program, advice
+from rvdbg_dap.program import Program
 from rvdbg_dap.threads import Threads
 from rvdbg_dap.values import Values
 
 PATIENCE, LOG_PATIENCE = 10.0, 20.0
 LATER = object()
-MALFORMED = (KeyError, TypeError, ValueError, AttributeError, IndexError, OverflowError)
-STATUSES = {
-    3: "the budget of instructions is used up; the launch argument `budget` sets it",
-    4: "the history is full, with 4,194,304 stops, commands and writes, or 64 MiB of commands",
-    5: "the program's file couldn't be read",
-    6: "the debugger couldn't write",
-    7: "memory ran out",
-}
+MALFORMED = (LookupError, TypeError, ValueError, AttributeError, ArithmeticError)
 CAPABILITIES = (
     "ConfigurationDoneRequest FunctionBreakpoints ConditionalBreakpoints HitConditionalBreakpoints LogPoints "
     "DataBreakpoints DataBreakpointBytes InstructionBreakpoints EvaluateForHovers SetVariable SetExpression "
@@ -33,44 +26,42 @@ CAPABILITIES = (
     "WriteMemoryRequest DisassembleRequest SteppingGranularity SingleThreadExecutionRequests"
 )
 BUILT = re.compile(r"rvdbg: (?:proving and building|\S+, (\d+) of (\d+))")
+# Of an end by itself `rvdbg` says why; what the budget is here the adapter knows better.
+ENDS = {3: "the budget of instructions is used up; the launch argument `budget` sets it"}
 
 
-class Session(Part):
+class Session(Engine):
     """What an editor and a debugger have in common. `on_..` are the editor's requests, `take_..` what else comes."""
 
     def __init__(self, inbox):
-        super().__init__(Engine(inbox))
-        self.inbox, self.client = inbox, self.engine.client
-        self.request = self.opening = self.progress = None
-        self.breakpoints, values, memory = Breakpoints(self.engine), Values(self.engine), Memory(self.engine)
-        self.threads = Threads(self.engine, self.breakpoints, values, memory)
-        self.parts = (self, self.threads, values, memory, self.breakpoints)
-        self.forget()
-
-    def forget(self):
-        """What is of one debugger alone."""
-        self.is_configured = self.is_over = self.is_done = self.engine.is_open = False
-        self.engine.debugger, self.engine.last, self.said = None, None, ""
+        super().__init__(inbox)
+        self.inbox, self.opening, self.progress, self.said = inbox, None, None, ""
+        self.is_configured = self.is_done = False
+        self.breakpoints, values, memory = Breakpoints(self), Values(self), Memory(self)
+        self.moves = Threads(self, self.breakpoints, values, memory)
+        self.parts = (self, self.moves, values, memory, self.breakpoints)
 
     def run(self):
         """Does what comes, in its order, until the editor goes."""
         while not self.is_done:
             origin, kind, *rest = self.inbox.get()
-            self.engine.deadline = time.monotonic() + PATIENCE
+            self.deadline = time.monotonic() + PATIENCE
             try:
-                if origin in (self.client, self.engine.debugger):
+                if origin in (self.client, self.debugger):
                     getattr(self, "take_" + kind)(*rest)
             except Refused as refusal:
                 self.say(str(refusal))
 
-    def take_message(self, message):
+    def take_message(self, message, fault):
         """Does a request, and answers it. What it brings about is told behind the answer."""
-        command, self.request, self.engine.after = message.get("command"), message, []
-        if message.get("type") != "request" or not isinstance(command, str) or type(message.get("seq")) is not int:
-            return self.say("a message is no request: %.200s" % message)
-        name = "on_" + re.sub("([A-Z])", lambda it: "_" + it[1].lower(), command)
+        command, is_request = message.get("command"), message.get("type") == "request"
+        if not is_request or not isinstance(command, str) or type(message.get("seq")) is not int:
+            return self.say(fault or "a message is no request: %.200s" % message)
+        name = "on_" + re.sub("[A-Z]", lambda it: "_" + it[0].lower(), command)
         part = next((it for it in self.parts if hasattr(it, name)), None)
+        self.request = message
         try:
+            need(not fault, fault)
             need(part, "the request %.100s isn't served", command)
             body = getattr(part, name)(dict(message.get("arguments") or {}))
             if body is not LATER:
@@ -79,14 +70,9 @@ class Session(Part):
             self.client.answer(message, error=str(refusal))
         except MALFORMED as error:
             self.client.answer(message, error="the arguments of %s aren't understood: %.200r" % (command, error))
-        for event in self.engine.after:
-            event()
-
-    def take_bad(self, text, message):
-        """Says what was no message; where it can be answered it is."""
-        self.say(text)
-        if message and type(message.get("seq")) is int and isinstance(message.get("command"), str):
-            self.client.answer(message, error=text)
+        self.request, after, self.after = None, self.after, []
+        for event in after:
+            self.client.send(event)
 
     def take_gone(self):
         raise BrokenPipeError
@@ -94,78 +80,78 @@ class Session(Part):
     def on_initialize(self, arguments):
         is_fine = arguments.get("linesStartAt1") is not False and arguments.get("pathFormat", "path") == "path"
         need(is_fine, "lines are counted from 1 here, and files have paths")
-        self.engine.hears = arguments
+        self.hears = arguments
         return dict({"supports" + it: True for it in CAPABILITIES.split()}, exceptionBreakpointFilters=[])
 
     def on_launch(self, arguments):
-        need(not self.engine.debugger, "a session is open already")
+        need(not self.debugger, "a session is open already")
         return self.start(Launch(arguments))
 
     def start(self, launch):
         """Starts the debugger of a launch, which is answered once that has accepted the program."""
         for it in launch.unknown:
             self.say(it)
-        self.engine.program = Program(launch.program)
-        self.engine.sources.look_in(self.engine.program, launch.folders)
+        self.program = Program(launch.program)
+        self.sources.look_in(launch.folders, self.program)
         try:
             log = open(launch.log, "wb") if launch.log else None
-            self.engine.debugger = Debugger(launch.words, self.inbox, log)
+            self.debugger = Debugger(launch.words, self.inbox, log)
         except OSError as error:
             raise Refused("%s: %s" % (error.filename, error.strerror)) from error
-        self.engine.launch, self.opening = launch, self.request
+        self.launch, self.opening = launch, self.request
         return LATER
 
     def on_restart(self, arguments):
         """A new session with the same breakpoints. One that can't begin leaves the old one as it is."""
-        launch = Launch(arguments.get("arguments") or self.engine.launch.arguments)
+        launch = Launch(arguments.get("arguments") or self.launch.arguments)
         self.close("the session begins anew")
         self.is_configured = True
         try:
             return self.start(launch)
         except Refused:
-            self.engine.later("terminated")
+            self.event("terminated")
             raise
 
     def opened(self):
         """The debugger has accepted the program."""
-        is_first, self.engine.is_open = self.opening["command"] == "launch", True
+        is_first, self.is_open = self.opening["command"] == "launch", True
         self.answer_opening()
-        for it in self.engine.program.lacks():
+        for it in self.program.lacks():
             self.say(it)
         self.breakpoints.insert_all()
         if is_first:
             self.event("initialized")
         if self.is_configured:
-            self.threads.begin()
+            self.moves.begin()
 
     def on_configuration_done(self, _):
-        if self.engine.is_open and not self.is_configured:
-            self.engine.after.append(self.threads.begin)
-        self.is_configured = True
+        is_first, self.is_configured = not self.is_configured, True
+        if self.is_open and is_first:
+            self.moves.begin()
 
     def on_terminate(self, _):
         self.close("the session is over")
-        self.engine.later("terminated")
+        self.event("terminated")
 
     def on_disconnect(self, _):
         """Ends the session. The editor isn't told any more that threads leave: it would ask for the others."""
-        self.engine.threads.clear()
+        self.threads.clear()
         self.close("the session is over")
         self.is_done = True
 
     def close(self, why):
         """Ends the debugger, and forgets what was of it."""
-        debugger, is_open, launch = self.engine.debugger, self.engine.is_open, self.engine.launch
-        if debugger:
-            debugger.stop(is_open, LOG_PATIENCE if launch.log else 1.0)
-        for identity in self.engine.threads:
+        if self.debugger:
+            self.debugger.stop(self.is_open, LOG_PATIENCE if self.launch.log else 1.0)
+        for identity in self.threads:
             self.event("thread", reason="exited", threadId=identity)
-        self.engine.threads.clear()
         for it in self.breakpoints.all:
             it.clear(why)
-        self.forget()
-        if is_open and launch.log:
-            self.say(launch.verdict())
+        if self.is_open and self.launch.log:
+            self.say(self.launch.verdict())
+        self.threads.clear()
+        self.debugger, self.last, self.said = None, None, ""
+        self.is_configured = self.is_open = False
         self.answer_opening(error=why)
 
     def answer_opening(self, **answer):
@@ -178,10 +164,11 @@ class Session(Part):
 
     def take_said(self, lines):
         """What the debugger says beside its records: how far it is built, or why it isn't."""
-        for self.said in [it.decode("utf-8", "replace") for it in lines]:
+        for line in lines:
+            self.said = line.decode("utf-8", "replace")
             self.say(self.said)
             built = BUILT.match(self.said)
-            if built and self.opening and self.engine.hears.get("supportsProgressReporting"):
+            if built and self.opening:
                 if self.progress is None:
                     self.progress = "build-%d" % self.opening["seq"]
                     self.event("progressStart", progressId=self.progress, title="Building rvdbg", cancellable=False)
@@ -192,7 +179,7 @@ class Session(Part):
         """What happened by itself, and what the program wrote, which is put together."""
         for is_output, group in itertools.groupby(lines, lambda it: it.startswith(b"@")):
             if is_output:
-                output = self.engine.debugger.decode(b"".join(map(stream, group)))
+                output = self.debugger.decode(b"".join(map(stream, group)))
                 self.event("output", category="stdout", output=output)
             for line in group:
                 try:
@@ -214,30 +201,25 @@ class Session(Part):
         if told.kind == "^" and told.name == "error" and self.opening:
             self.said = fields["msg"]
         elif told.name == "thread-created":
-            self.engine.threads[int(fields["id"])] = Thread(int(fields["id"]))
+            self.threads[int(fields["id"])] = Thread(int(fields["id"]))
             self.event("thread", reason="started", threadId=int(fields["id"]))
-        elif told.name == "thread-exited" and self.engine.threads.pop(int(fields["id"]), None):
+        elif told.name == "thread-exited" and self.threads.pop(int(fields["id"]), None):
             self.event("thread", reason="exited", threadId=int(fields["id"]))
         elif told.name == "stopped" and fields.get("reason", "").startswith("exited"):
             self.event("exited", exitCode=int(fields.get("exit-code", "0"), 8))
-            self.is_over = not self.engine.launch.log
-            if self.is_over:
-                self.event("terminated")
-            self.engine.debugger.process.stdin.close()
+            self.debugger.process.stdin.close()
         elif told.name == "stopped":
-            self.threads.stopped(self.engine.threads[int(fields["thread-id"])], fields)
-        return None
+            self.moves.stopped(self.threads[int(fields["thread-id"])], fields)
 
     def take_ended(self):
         """The debugger has ended: with the program, with its budget, or because it refused something."""
-        is_cut = self.opening["command"] == "restart" if self.opening else not self.is_over
-        status = self.engine.debugger.status()
-        why = STATUSES.get(status, "the debugger ended with status %s" % status)
-        why = advice(self.said) if self.said and not self.engine.is_open else why
+        is_launch, status = self.opening and self.opening["command"] == "launch", self.debugger.status()
+        why = ENDS.get(status, "the debugger ended with status %s" % status)
+        why = self.said if self.said and not self.is_open else why
         if status != 0:
             self.say(why, "stderr")
         self.close(why)
-        if is_cut:
+        if not is_launch:
             self.event("terminated")
 
 
@@ -250,6 +232,6 @@ def main():
     except (BrokenPipeError, KeyboardInterrupt):
         return 1
     finally:
-        if session.engine.debugger:
-            session.engine.debugger.stop(session.engine.is_open)
+        if session.debugger:
+            session.debugger.stop(session.is_open)
     return 0

@@ -1,13 +1,12 @@
 """Files of source: where those stand that the program's tables name, and which of those an editor's file is."""
 
-import collections
 import contextlib
 import os
 import time
 
-from rvdbg_dap.lines import tail
+from rvdbg_dap.program import tail
 
-MOST_FILES, LONGEST_SEARCH = 50000, 1.0
+LONGEST_SEARCH = 1.0
 NOWHERE = "%s isn't found in these folders, nor below them:\n\n%s\n\nThe launch argument `sourcePath` names others.\n"
 
 
@@ -22,11 +21,9 @@ class Sources:
     def __init__(self):
         self.program, self.folders, self.told, self.found, self.below, self.missing = None, [], [], {}, None, []
 
-    def look_in(self, program, folders):
-        """Looks in these folders; where there are none, in the program's and the editor's."""
-        folders = folders or [os.path.dirname(program.path), os.getcwd()]
-        self.folders = [os.path.abspath(os.path.expanduser(it)) for it in folders]
-        self.program, self.found, self.below = program, {}, None
+    def look_in(self, folders, program):
+        """Looks for a program's files in these folders."""
+        self.folders, self.program, self.found, self.below = folders, program, {}, None
 
     def tell(self, path):
         """The editor has this file."""
@@ -59,17 +56,18 @@ class Sources:
         return name not in self.program.lines.paths or name in (self.program.lines.closest(path) or {name})
 
     def walk(self):
-        """The files below the folders by their last names, the upper ones first; so many, for so long, and once."""
-        ahead = collections.deque(self.folders if self.below is None else [])
-        ends, count, self.below = time.monotonic() + LONGEST_SEARCH, 0, self.below or {}
-        while ahead and count < MOST_FILES and time.monotonic() < ends:
-            with contextlib.suppress(OSError):
-                for it in sorted(os.scandir(ahead.popleft()), key=lambda it: it.name):
-                    count += 1
-                    if not it.is_dir(follow_symlinks=False):
-                        self.below.setdefault(it.name, []).append(it.path)
-                    elif not it.name.startswith("."):
-                        ahead.append(it.path)
+        """The files below the folders by their last names, the upper ones first: once, and not for long."""
+        if self.below is None:
+            ahead, self.below, ends = [*self.folders], {}, time.monotonic() + LONGEST_SEARCH
+            for folder in ahead:
+                with contextlib.suppress(OSError):
+                    for it in sorted(os.scandir(folder), key=lambda it: it.name):
+                        if not it.is_dir(follow_symlinks=False):
+                            self.below.setdefault(it.name, []).append(it.path)
+                        elif not it.name.startswith("."):
+                            ahead.append(it.path)
+                if time.monotonic() > ends:
+                    break
         return self.below
 
     def source(self, name, address):

@@ -71,10 +71,10 @@ class Threads(Part):
         point.early.discard(thread.identity)
         try:
             value = self.value(point, thread, point.condition)
-            condition = None if point.is_looked_at else self.values.in_core(thread, point.condition)
-            point.is_looked_at = True
-            if condition is not None:
-                self.breakpoints.hand_over(point, condition)
+            if not point.is_looked_at:
+                point.is_looked_at = True
+                with contextlib.suppress(Refused):
+                    self.breakpoints.hand_over(point, self.values.in_core(thread, point.condition))
             need(value[0] != "<", "it has %s", value)
             return int(value) != 0
         except Refused as refusal:
@@ -105,10 +105,11 @@ class Threads(Part):
     def begin(self):
         """Lets the harts run, or tells that they stand at the entry."""
         self.awaited = set(self.engine.threads)
-        if not self.engine.launch.stops:
+        if self.engine.launch.stops:
+            for thread in self.engine.threads.values():
+                self.tell_stop(thread, "entry")
+        else:
             self.ask("-exec-continue --all")
-        for thread in self.engine.threads.values() if self.engine.launch.stops else ():
-            self.tell_stop(thread, "entry")
 
     def on_threads(self, _):
         return {"threads": [{"id": it, "name": "hart %d" % (it - 1)} for it in sorted(self.engine.threads)]}
@@ -140,7 +141,7 @@ class Threads(Part):
         thread.is_stepping, self.awaited = True, {thread.identity}
         is_single = arguments.get("singleThread", "step" in self.engine.launch.alone)
         for it in self.go_on([it for it in others if it is not thread and not is_single]):
-            self.engine.later("continued", threadId=it, allThreadsContinued=False)
+            self.event("continued", threadId=it, allThreadsContinued=False)
 
     on_next = functools.partialmethod(step, "-exec-next", "-exec-next-instruction")
     on_step_in = functools.partialmethod(step, "-exec-step", "-exec-step-instruction")
@@ -172,7 +173,7 @@ class Threads(Part):
         result, running = self.engine.reply(line)
         for it in running:
             self.engine.threads[it].is_stepping = not line.startswith("-exec-continue")
-            self.engine.later("continued", threadId=it, allThreadsContinued=False)
+            self.event("continued", threadId=it, allThreadsContinued=False)
         self.awaited = set(running) or self.awaited
         written, is_done = WRITTEN.match(line), result.name == "done"
         if is_done and line.startswith("-break-"):
@@ -180,5 +181,5 @@ class Threads(Part):
         elif is_done and written:
             self.engine.written(int(written[1], 0), int(written[3] or len(written[2]) // 2))
         elif is_done and SET.match(line):
-            self.engine.later("invalidated", areas=["variables"])
+            self.event("invalidated", areas=["variables"])
         return {"result": result.text, "variablesReference": 0}

@@ -9,8 +9,8 @@ from rvdbg_dap.mi import Refused, c_string, need
 # A frame's number is made of its thread and its level, a reference to variables of what they are and of the frame.
 LEVELS, KINDS = 100, 10000
 REGISTERS, LOCALS, ARGUMENTS, RADIXES = 1, 2, 3, 10
-SCOPES = [("Arguments", ARGUMENTS), ("Locals", LOCALS), ("Registers", REGISTERS)]
-OUTER_SCOPES = [("Registers (of the innermost frame)", REGISTERS)]
+SCOPES = [("Arguments", "arguments", ARGUMENTS), ("Locals", "locals", LOCALS), ("Registers", "registers", REGISTERS)]
+OUTER_SCOPES = [("Registers (of the innermost frame)", "registers", REGISTERS)]
 RADIX = {"decimal": "{1:d}", "unsigned": "{0:d}", "octal": "0{0:o}", "binary": "0b{0:032b}"}
 SIZES = {1: "unsigned char", 2: "unsigned short", 4: "int"}
 WIDTHS = {"int": 4, "unsigned int": 4, "short": 2, "unsigned short": 2, "char": 1, "unsigned char": 1}
@@ -19,6 +19,7 @@ NAME = re.compile(r"[A-Za-z_.][\w.$]*", re.ASCII)
 TOKEN = re.compile(r"\{[^{}]*\}|\$?[A-Za-z_.][\w.$]*|\d\w*|&&|\S", re.ASCII)
 PLACE = re.compile(r"\{\s*((?:unsigned )?(?:int|short|char))\s*\}\s*(&\s*[\w.]+|\$?\w+|\([^()]*\))")
 REGISTER_NAMES = [{"s0": "fp"}.get(it, it) for it in [*NAMES, "pc"]]
+REGISTER_NUMBERS = {name: at for at in range(32) for name in ("x%d" % at, NAMES[at], REGISTER_NAMES[at])}
 NOT_HERE = "%s isn't known here: variables and registers are known of a thread's innermost frame alone"
 UNREAD = "`%s` may be a variable of DWARF 5, which isn't read: build with -gdwarf-4, or write {int} &%s"
 LARGE = "`%s` has %d bytes: 1, 2 or 4 can be shown; {int} &%s shows four of them"
@@ -37,19 +38,23 @@ def names(text):
         is_wanted = it[0][0] == "{" or not (is_name or it[0][0].isdigit() or it[0] == ")")
 
 
+def bare_names(text):
+    return [(at, name) for at, name in names(text) if name[0] != "$"]
+
+
 def unknown_name(text, refusal):
     """The place of a bare name for which the debugger refused a text, and the name; another refusal stays one."""
     found = re.match(r"No symbol in expression at (\d+)", str(refusal))
-    name = dict(names(text)).get(int(found[1])) if found and text.isascii() else None
-    if name is None or name[0] == "$":
-        raise refusal
-    return int(found[1]), name
+    for at, name in bare_names(text):
+        if found and text.isascii() and at == int(found[1]):
+            return at, name
+    raise refusal
 
 
 def zeros(text):
     """The text with a number as long in the place of each bare name: what else is wrong with it stays where it is."""
-    for at, name in names(text):
-        text = text if name[0] == "$" else text[:at] + "0" * len(name) + text[at + len(name) :]
+    for at, name in bare_names(text):
+        text = text[:at] + "0" * len(name) + text[at + len(name) :]
     return text
 
 
@@ -59,8 +64,8 @@ class Values(Part):
     def on_stack_trace(self, arguments):
         thread = self.engine.thread(arguments["threadId"])
         rows = self.ask("-stack-list-frames --thread %d" % thread.identity)["stack"]
-        first, most = max(0, int(arguments.get("startFrame") or 0)), int(arguments.get("levels") or 0)
-        wanted = rows[first : first + most] if most > 0 else rows[first:]
+        first, most = (max(0, int(arguments.get(it) or 0)) for it in ("startFrame", "levels"))
+        wanted = rows[first : first + most] if most else rows[first:]
         return {"stackFrames": [self.frame(thread, it) for it in wanted], "totalFrames": len(rows)}
 
     def frame(self, thread, row):
@@ -80,15 +85,15 @@ class Values(Part):
         return self.engine.thread(number // LEVELS), number % LEVELS
 
     def listed(self, thread):
-        """The variables of a thread's innermost frame, each with what is shown of it."""
+        """The variables of a thread's innermost frame."""
         return self.ask("-stack-list-variables --thread %d 1" % thread.identity)["variables"]
 
     def on_scopes(self, arguments):
         number = arguments["frameId"]
         _, level = self.framed(number)
-        keys, rows = ("name", "presentationHint", "variablesReference", "expensive"), OUTER_SCOPES if level else SCOPES
-        told = [(name, name.split()[0].lower(), kind * KINDS + number, False) for name, kind in rows]
-        return {"scopes": [dict(zip(keys, it)) for it in told]}
+        keys = ("name", "presentationHint", "variablesReference", "expensive")
+        rows = [(*it, kind * KINDS + number, False) for *it, kind in (OUTER_SCOPES if level else SCOPES)]
+        return {"scopes": [dict(zip(keys, it)) for it in rows]}
 
     def on_variables(self, arguments):
         kind, number = divmod(arguments["variablesReference"], KINDS)
@@ -116,11 +121,9 @@ class Values(Part):
         return dict(told, presentationHint={"attributes": ["readOnly"] if name in ("zero", "pc") else []})
 
     def on_set_variable(self, arguments):
-        (kind, number), name = divmod(arguments["variablesReference"], KINDS), arguments["name"]
+        kind, number = divmod(arguments["variablesReference"], KINDS)
         need(kind == REGISTERS, "only registers can be set here")
-        told, like = self.set_register(number, name, arguments["value"]), {"s0": "fp"}.get(name, name)
-        at = RADIXES + REGISTER_NAMES.index(like) if like in REGISTER_NAMES else 0
-        return dict(told, variablesReference=at and at * KINDS + number)
+        return self.set_register(number, arguments["name"], arguments["value"])
 
     def set_register(self, number, name, value):
         """Sets a register of a frame's thread, by any of its names."""
@@ -128,7 +131,8 @@ class Values(Part):
         thread, _ = self.framed(number)
         word = self.number(value, number) % WORD
         self.ask("-gdb-set --thread %d $%s=%d" % (thread.identity, name, word))
-        return {"value": "0x%08x" % word, "memoryReference": "0x%08x" % word}
+        told = self.register(REGISTER_NUMBERS[name], word, number)
+        return {it: told[it] for it in ("value", "variablesReference", "memoryReference")}
 
     def number(self, text, frame):
         """The number that a person typed: in any radix, or as an expression."""
@@ -147,26 +151,26 @@ class Values(Part):
         """An expression's value in a frame, and what its names stand for: without a frame all are those of symbols."""
         thread, level = self.framed(frame) if frame else (next(iter(self.engine.standing()), None), 0)
         need(thread, "no thread stands")
-        found, taken = list(names(text)), []
-        for _, it in found:
+        for _, it in names(text):
             need(not level and (frame or it[0] != "$"), NOT_HERE, it)
-        for at, name in reversed([] if frame else found):
+        taken = []
+        for at, name in reversed([] if frame else bare_names(text)):
             text = self.with_symbol(text, at, name, None, taken)
         return self.value(thread, text, taken)
 
     def value(self, thread, text, taken=()):
         """The value of an expression in a thread's innermost frame, and what its names stand for."""
-        asked, listed, taken = text, None, [*taken]
+        asked, taken = text, [*taken]
         while True:
             try:
                 line = "-data-evaluate-expression --thread %d %s" % (thread.identity, c_string(asked))
                 return self.ask(line)["value"], taken
             except Refused as refusal:
                 at, name = unknown_name(asked, refusal)
-            listed = self.listed(thread) if listed is None else listed
-            shown = [it["value"] for it in listed if it["name"] == name == text.strip()]
-            if shown:
-                return shown[0], taken
+            listed = self.listed(thread)
+            for it in listed:
+                if it["name"] == text.strip():
+                    return it["value"], taken
             asked = self.with_symbol(asked, at, name, listed, taken)
 
     def with_symbol(self, text, at, name, listed, taken):
@@ -185,17 +189,13 @@ class Values(Part):
         return "%s({%s} &%s)%s" % (text[:at], SIZES[size], name, text[at + len(name) :])
 
     def in_core(self, thread, text):
-        """A condition over globals of 4 bytes as one that the debugger can judge, or None for another one."""
+        """A condition over globals of 4 bytes as one that the debugger can judge. Another one is refused."""
         listed = self.listed(thread)
-        for at, name in reversed([it for it in names(text) if it[1][0] != "$"]):
-            try:
-                text = self.with_symbol(text, at, name, listed, [])
-                sign, _ = self.value(thread, "((%s & 0) - 1) / 2" % name)
-            except Refused:
-                return None
-            if text[at : at + 6] != "({int}":
-                return None
-            text = text if sign == "0" else text[:at] + text[at:].replace("int", "unsigned int", 1)
+        for at, name in reversed(bare_names(text)):
+            text = self.with_symbol(text, at, name, listed, [])
+            need(text[at:].startswith("({int}"), "%s hasn't 4 bytes", name)
+            is_unsigned = self.value(thread, "((%s & 0) - 1) / 2" % name)[0] != "0"
+            text = text[:at] + text[at:].replace("int", "unsigned int", 1) if is_unsigned else text
         return text
 
     def place(self, text, frame):
