@@ -20,12 +20,16 @@ class Thread:
 
 
 class Engine:
-    """The debugger in the middle. `last` is the thread that stopped last, `hears` what the editor says of itself."""
+    """The debugger in the middle. Each part of a session builds on it; its `on_..` are the requests that it serves.
+
+    `last` is the thread that stopped last, `awaited` has those of which the first to stop is to be looked at, `hears`
+    is what the editor says of itself, and `request` what is being done for it.
+    """
 
     def __init__(self, inbox):
         self.client, self.sources, self.hears, self.threads, self.after = Client(inbox), Sources(), {}, {}, []
         self.launch = self.program = self.debugger = self.last = self.request = None
-        self.is_open, self.deadline = False, 0.0
+        self.is_open, self.deadline, self.awaited = False, 0.0, set()
 
     def reply(self, command):
         """Has the debugger do a line, and gives its result and which threads go on. What else happens waits."""
@@ -54,21 +58,8 @@ class Engine:
         """Tells the editor what happens, where it takes that: behind the answer to a request that is being done."""
         if event not in ASKED or self.hears.get(ASKED[event]):
             send = self.after.append if self.request else self.client.send
-            send({"type": "event", "event": event, "body": body})
+            send(dict(type="event", event=event, body=body))
 
     def say(self, text, category="console", **place):
         """Puts a line where the editor shows output, at once."""
-        body = dict(category=category, output=text + "\n", **place)
-        self.client.send({"type": "event", "event": "output", "body": body})
-
-    def written(self, address, count):
-        """Tells that memory was written, of which views are made."""
-        self.event("memory", memoryReference="0x%08x" % address, offset=0, count=count)
-        self.event("invalidated", areas=["variables"])
-
-
-class Part:
-    """A part of a session. Its `on_..` are the requests that it serves."""
-
-    def __init__(self, engine):
-        self.engine, self.ask, self.say, self.event = engine, engine.ask, engine.say, engine.event
+        self.client.send(dict(type="event", event="output", body=dict(category=category, output=text + "\n", **place)))

@@ -27,7 +27,7 @@ AMOS = {0: "add", 1: "swap", 4: "xor", 8: "or", 12: "and", 16: "min", 20: "max",
 for code, amo in AMOS.items():
     for bits, order in enumerate(("", ".rl", ".aq", ".aqrl")):
         FORMS[AMO, code << 2 | bits] = ("- - amo%s.w%s" % (amo, order), "{rd},{rs2},({rs1})")
-ACCESSES = {LOAD: ("loads from", "number"), STORE: ("stores to", "stored"), AMO: ("changes", "")}
+ACCESSES = {LOAD: (" loads from 0x%08x", "number"), STORE: (" stores to 0x%08x", "stored"), AMO: (" changes 0x%08x", "")}
 FLOATS = (0x07, 0x27, 0x43, 0x47, 0x4B, 0x4F, 0x53)
 CSRS = "system csrrw csrrs csrrc system csrrwi csrrsi csrrci".split()
 
@@ -43,7 +43,7 @@ class Instruction:
         number, stored = sign << 11 | word >> 20 & 0x7FF, sign << 11 | word >> 20 & 0x7E0 | word >> 7 & 0x1F
         self.fields = {it: NAMES[word >> at & 31] for it, at in (("rd", 7), ("rs1", 15), ("rs2", 20))}
         self.fields.update(number=number, stored=stored, upper=word >> 12, shift=word >> 20 & 31)
-        self.fields.update(branch=(pc + branch) % (1 << 32), jump=(pc + jump) % (1 << 32))
+        self.fields.update(branch=(pc + branch) % (1 << 32), jump=(pc + jump) % (1 << 32), pc=pc)
 
     def text(self):
         """The instruction, or None where the word is none."""
@@ -54,21 +54,23 @@ class Instruction:
                 return ("%s %s" % (name, operands.format_map(self.fields))).strip()
         return None
 
+    def trap(self, registers):
+        """What it does, where the registers hold this, that it has trapped."""
+        if self.text() is None:
+            return "at 0x%08x is %s" % (self.fields["pc"], self.foreign())
+        what, offset = ACCESSES.get(self.opcode, ("", ""))
+        address = (registers[self.word >> 15 & 31] + self.fields.get(offset, 0)) % (1 << 32)
+        return "`%s` at 0x%08x%s" % (self.text(), self.fields["pc"], what and what % address)
+
     def foreign(self):
         """What a word is that is no instruction of this machine, and what helps."""
         if self.word & 3 != 3:
             return "a compressed instruction or none at all: leave `c` out of -march"
-        if self.opcode == AMO and self.form == 2 and self.high >> 2 in (2, 3):
-            return "`%s.w`, which isn't an instruction of this machine: use an AMO" % ("lr", "sc")[self.high >> 2 & 1]
-        if self.opcode == SYSTEM:
-            text = "`%s`, which isn't an instruction of this machine: there are no CSRs and no other modes"
-            return text % CSRS[self.form]
         if self.opcode in FLOATS:
             return "floating point, which this machine hasn't: -march=rv32ima -mabi=ilp32"
-        return "no instruction of this machine"
-
-    def access(self, registers):
-        """What it does to memory if the registers hold this, or an empty text."""
-        what, more = ACCESSES.get(self.opcode, ("", ""))
-        address = (registers[self.word >> 15 & 31] + self.fields.get(more, 0)) % (1 << 32)
-        return " %s 0x%08x" % (what, address) if what else ""
+        name, helps = CSRS[self.form], "there are no CSRs and no other modes"
+        if self.opcode == AMO and self.form == 2 and self.high >> 2 in (2, 3):
+            name, helps = ("lr.w", "sc.w")[self.high >> 2 & 1], "use an AMO"
+        elif self.opcode != SYSTEM:
+            return "no instruction of this machine"
+        return "`%s`, which isn't an instruction of this machine: %s" % (name, helps)

@@ -59,8 +59,8 @@ class Launch:
         """Has the log of a session that is over checked and drawn, and gives what is to be said of it."""
         picture = os.path.splitext(self.log)[0] + ".svg"
         try:
-            said = self.fed([self.rvdbg, "--check", self.program]).decode("utf-8", "replace").strip()
-            drawn = self.fed([sys.executable, os.path.join(CLONE, "examples", "timeline", "timeline.py")])
+            said = self.fed(self.rvdbg, "--check", self.program).decode("utf-8", "replace").strip()
+            drawn = self.fed(sys.executable, os.path.join(CLONE, "examples", "timeline", "timeline.py"))
             with open(picture, "wb") as file:
                 file.write(drawn)
         except OSError as error:
@@ -68,8 +68,8 @@ class Launch:
         said = said or "the check takes more than %s s" % LONGEST_CHECK
         return "%s: %s; its picture is %s" % (self.log, said, picture)
 
-    def fed(self, words):
+    def fed(self, *words):
         """Has a command read the log, and gives what it writes: not for long, nor behind an adapter that is killed."""
+        words = ["timeout", "-k", "1", LONGEST_CHECK, *words]
         with open(self.log, "rb") as log:
-            words = ["timeout", "-k", "1", LONGEST_CHECK, *words]
             return subprocess.run(words, stdin=log, stdout=subprocess.PIPE, stderr=subprocess.DEVNULL).stdout

@@ -3,7 +3,7 @@
 import base64
 import re
 
-from rvdbg_dap.engine import Part
+from rvdbg_dap.engine import Engine
 from rvdbg_dap.instructions import Instruction
 from rvdbg_dap.mi import Refused, need
 
@@ -15,16 +15,16 @@ def place(arguments, reference="memoryReference"):
     return (int(arguments[reference], 0) + int(arguments.get("offset") or 0)) % WORD
 
 
-class Memory(Part):
+class Memory(Engine):
     """The part of a session that looks at memory."""
 
     def on_read_memory(self, arguments):
         begins, count = place(arguments), max(0, int(arguments["count"]))
-        found = self.bytes(begins, count)
+        found = self.bytes_at(begins, count)
         told = {"address": "0x%08x" % begins, "data": base64.b64encode(found).decode()}
         return told if len(found) == count else dict(told, unreadableBytes=count - len(found))
 
-    def bytes(self, begins, count):
+    def bytes_at(self, begins, count):
         """So many bytes, or those before the first that can't be read."""
         found, ends = b"", count
         while len(found) < ends:
@@ -47,38 +47,31 @@ class Memory(Part):
         self.event("invalidated", areas=["variables"])
         return {"bytesWritten": len(content)}
 
-    def on_disassemble(self, arguments):
-        begins, count = place(arguments) & ~3, int(arguments["instructionCount"])
-        begins, has_symbol = begins + 4 * int(arguments.get("instructionOffset") or 0), arguments.get("resolveSymbols")
-        need(0 <= count <= 1 << 16, "at most 65,536 instructions are taken apart at once, not %d", count)
-        return {"instructions": [self.instruction((begins + 4 * it) % WORD, has_symbol) for it in range(count)]}
+    def written(self, address, count):
+        """Tells that memory was written, of which views are made."""
+        self.event("memory", memoryReference="0x%08x" % address, offset=0, count=count)
+        self.event("invalidated", areas=["variables"])
 
-    def found(self, address):
+    def on_disassemble(self, arguments):
+        count, first = int(arguments["instructionCount"]), int(arguments.get("instructionOffset") or 0)
+        need(0 <= count <= 1 << 16, "at most 65,536 instructions are taken apart at once, not %d", count)
+        begins = (place(arguments) & ~3) + 4 * first
+        return {"instructions": [self.disassembled((begins + 4 * it) % WORD) for it in range(count)]}
+
+    def instruction_at(self, address):
         """The instruction at an address, or None where there is no text."""
-        content = self.bytes(address, 4)
-        is_whole = len(content) == 4 and self.engine.program.is_text(address)
+        content = self.bytes_at(address, 4)
+        is_whole = len(content) == 4 and self.program.is_text(address)
         return Instruction(int.from_bytes(content, "little"), address) if is_whole else None
 
-    def instruction(self, address, has_symbol):
+    def disassembled(self, address):
         """What the editor is told of the place of an instruction."""
-        told, found, program = {"address": "0x%08x" % address}, self.found(address), self.engine.program
+        told, found, near = {"address": "0x%08x" % address}, self.instruction_at(address), self.program.near(address)
         if found is None:
             return dict(told, instruction="no instruction", presentationHint="invalid")
-        text, near, row = found.text() or ".word 0x%08x" % found.word, program.near(address), program.lines.at(address)
+        told.update({"symbol": near} if near else {}, instructionBytes=found.word.to_bytes(4, "little").hex())
+        text, row = found.text() or ".word 0x%08x" % found.word, self.program.row(address)
         goes = re.search(r",0x([0-9a-f]{8})$", text)
-        there = goes and program.near(int(goes[1], 16))
+        there = goes and self.program.near(int(goes[1], 16))
         told["instruction"] = "%s <%s>" % (text, there) if there else text
-        told["instructionBytes"] = found.word.to_bytes(4, "little").hex()
-        if near and has_symbol is not False:
-            told["symbol"] = near
-        return dict(told, location=self.engine.sources.source(row.path, address), line=row.line) if row else told
-
-    def trap(self, pc, registers):
-        """What the instruction does at which a thread with these registers has trapped."""
-        found = self.found(pc)
-        if found is None:
-            return "there is no instruction at 0x%08x" % pc
-        text = found.text()
-        if text is None:
-            return "at 0x%08x is %s" % (pc, found.foreign())
-        return "`%s` at 0x%08x%s" % (text, pc, found.access(registers))
+        return dict(told, location=self.sources.source(row.path, address), line=row.line) if row else told

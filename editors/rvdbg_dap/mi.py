@@ -14,7 +14,7 @@ import types
 
 STREAM = re.compile(rb'[@&~]"((?:[^"\\]|\\.)*)"')
 RECORD = re.compile(rb"\d*([\^*=])([A-Za-z0-9_-]+)(?:,|$)")
-TOKEN = re.compile(rb'"((?:[^"\\]|\\.)*)"|([A-Za-z0-9_-]+)=|([{}\[\],])')
+TOKEN = re.compile(rb'"((?:[^"\\]|\\.)*)"|([A-Za-z0-9_-]+)=|(.)')
 ESCAPE = re.compile(rb"\\([0-7]{1,3}|.)")
 ESCAPED = {b"n": b"\n", b"r": b"\r", b"t": b"\t"}
 ODD = re.compile(rb"[^ !#-\[\]-~]")
@@ -54,12 +54,9 @@ def record(line):
     head = RECORD.match(line)
     if head is None:
         raise ValueError("it is no record")
-    made, brackets, place = "{", "{", head.end()
-    while place < len(line):
-        token = TOKEN.match(line, place)
-        if token is None:
-            raise ValueError("at byte %d" % place)
-        place, (text, name, mark) = token.end(), token.groups()
+    made, brackets = "{", "{"
+    for token in TOKEN.finditer(line, head.end()):
+        text, name, mark = token.groups()
         if text is not None:
             made += json.dumps(bytes_of(text).decode("utf-8", "surrogateescape"))
         elif name is not None:

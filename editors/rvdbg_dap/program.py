@@ -113,53 +113,17 @@ class Unit:
                 rows.append(Row(address, self.files[file - self.first], line, is_stmt))
 
 
-class Lines:
-    """The tables of a program. Headers are read at once, rows where they are asked for. A unit with a fault has none."""
-
-    def __init__(self, sections, is_text):
-        self.is_text, self.units = is_text, []
-        for content in units(sections.get(".debug_line", b"")):
-            with contextlib.suppress(*UNREADABLE):
-                self.units.append(Unit(content, sections))
-        self.paths = {it for unit in self.units for it in unit.files}
-
-    @functools.cached_property
-    def sequences(self):
-        """All rows, in sequences in text, each with the address behind it."""
-        found = []
-        for unit in self.units:
-            with contextlib.suppress(*UNREADABLE):
-                found += [it for it in unit.sequences() if it[0] and self.is_text(it[0][0].address)]
-        return found
-
-    def closest(self, path):
-        """Of the files with the last name of a path those whose folders have most in common with its own."""
-        most = max((tail(it, path) for it in self.paths), default=0)
-        return {it for it in self.paths if most and tail(it, path) == most}
-
-    def at(self, address):
-        """The row of an address, or None."""
-        for rows, ends in self.sequences:
-            if rows[0].address <= address < ends:
-                behind = bisect.bisect(rows, (address + 1,))
-                there = rows[bisect.bisect(rows, (rows[behind - 1].address,)) : behind]
-                return ([it for it in there if it.is_stmt] or there)[-1]
-        return None
-
-    def address(self, paths, line):
-        """The least address of the least line from this one on with a statement in one of these files, or None."""
-        rows = [it for rows, _ in self.sequences for it in rows if it.is_stmt and it.path in paths and it.line >= line]
-        return min(((it.line, it.address) for it in rows), default=(0, None))[1]
-
-
 class Program:
     """What is read of a file. What can't be read isn't there: the debugger says what is wrong with it."""
 
     def __init__(self, path):
-        self.path, self.sections, self.texts, self.symbols, self.functions = path, {}, [], {}, []
+        self.path, self.sections, self.texts, self.symbols, self.functions, self.units = path, {}, [], {}, [], []
         with contextlib.suppress(OSError, *UNREADABLE), open(path, "rb") as file:
             self.read(file.read(LARGEST))
-        self.lines = Lines(self.sections, self.is_text)
+        for content in units(self.sections.get(".debug_line", b"")):
+            with contextlib.suppress(*UNREADABLE):
+                self.units.append(Unit(content, self.sections))
+        self.files = {it for unit in self.units for it in unit.files}
         # Whether variables may be there that the debugger doesn't read: in units of DWARF 5.
         versions = [int.from_bytes(it[:2], "little") for it in units(self.sections.get(".debug_info", b""))]
         self.has_unread = max(versions, default=0) > 4
@@ -188,6 +152,34 @@ class Program:
         at = bisect.bisect(self.functions, (address, "\U0010ffff")) - 1
         begins, name, size = self.functions[at] if at >= 0 else (0, "", 1)
         return "%s+%d" % (name, address - begins) if name and (size == 0 or address - begins < size) else ""
+
+    @functools.cached_property
+    def sequences(self):
+        """All rows, in sequences in text, each with the address behind it. They are read where they are asked for."""
+        found = []
+        for unit in self.units:
+            with contextlib.suppress(*UNREADABLE):
+                found += [it for it in unit.sequences() if it[0] and self.is_text(it[0][0].address)]
+        return found
+
+    def row(self, address):
+        """The row of an address, or None."""
+        for rows, ends in self.sequences:
+            if rows[0].address <= address < ends:
+                behind = bisect.bisect(rows, (address + 1,))
+                there = rows[bisect.bisect(rows, (rows[behind - 1].address,)) : behind]
+                return ([it for it in there if it.is_stmt] or there)[-1]
+        return None
+
+    def address(self, files, line):
+        """The least address of the least line from this one on with a statement in one of these files, or None."""
+        rows = [it for rows, _ in self.sequences for it in rows if it.is_stmt and it.path in files and it.line >= line]
+        return min(((it.line, it.address) for it in rows), default=(0, None))[1]
+
+    def closest(self, path):
+        """Of the files with the last name of a path those whose folders have most in common with its own."""
+        most = max((tail(it, path) for it in self.files), default=0)
+        return {it for it in self.files if most and tail(it, path) == most}
 
     def lacks(self):
         """What the file lacks for a session with its source."""

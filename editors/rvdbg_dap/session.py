@@ -7,14 +7,12 @@ import signal
 import sys
 import time
 
-from rvdbg_dap.breakpoints import Breakpoints
-from rvdbg_dap.engine import Engine, Thread
+from rvdbg_dap.engine import Thread
 from rvdbg_dap.launch import Launch
-from rvdbg_dap.memory import Memory
 from rvdbg_dap.mi import Debugger, Refused, need, record, stream
 from rvdbg_dap.program import Program
+from rvdbg_dap.sources import Sources
 from rvdbg_dap.threads import Threads
-from rvdbg_dap.values import Values
 
 PATIENCE, LOG_PATIENCE = 10.0, 20.0
 LATER = object()
@@ -30,16 +28,13 @@ BUILT = re.compile(r"rvdbg: (?:proving and building|\S+, (\d+) of (\d+))")
 ENDS = {3: "the budget of instructions is used up; the launch argument `budget` sets it"}
 
 
-class Session(Engine):
+class Session(Threads):
     """What an editor and a debugger have in common. `on_..` are the editor's requests, `take_..` what else comes."""
 
     def __init__(self, inbox):
         super().__init__(inbox)
         self.inbox, self.opening, self.progress, self.said = inbox, None, None, ""
         self.is_configured = self.is_done = False
-        self.breakpoints, values, memory = Breakpoints(self), Values(self), Memory(self)
-        self.moves = Threads(self, self.breakpoints, values, memory)
-        self.parts = (self, self.moves, values, memory, self.breakpoints)
 
     def run(self):
         """Does what comes, in its order, until the editor goes."""
@@ -58,12 +53,11 @@ class Session(Engine):
         if not is_request or not isinstance(command, str) or type(message.get("seq")) is not int:
             return self.say(fault or "a message is no request: %.200s" % message)
         name = "on_" + re.sub("[A-Z]", lambda it: "_" + it[0].lower(), command)
-        part = next((it for it in self.parts if hasattr(it, name)), None)
         self.request = message
         try:
             need(not fault, fault)
-            need(part, "the request %.100s isn't served", command)
-            body = getattr(part, name)(dict(message.get("arguments") or {}))
+            need(hasattr(self, name), "the request %.100s isn't served", command)
+            body = getattr(self, name)(dict(message.get("arguments") or {}))
             if body is not LATER:
                 self.client.answer(message, body)
         except Refused as refusal:
@@ -92,7 +86,7 @@ class Session(Engine):
         for it in launch.unknown:
             self.say(it)
         self.program = Program(launch.program)
-        self.sources.look_in(launch.folders, self.program)
+        self.sources = Sources(self.program, launch.folders, self.sources.told, self.sources.missing)
         try:
             log = open(launch.log, "wb") if launch.log else None
             self.debugger = Debugger(launch.words, self.inbox, log)
@@ -118,16 +112,16 @@ class Session(Engine):
         self.answer_opening()
         for it in self.program.lacks():
             self.say(it)
-        self.breakpoints.insert_all()
+        self.insert_points()
         if is_first:
             self.event("initialized")
         if self.is_configured:
-            self.moves.begin()
+            self.begin()
 
     def on_configuration_done(self, _):
         is_first, self.is_configured = not self.is_configured, True
         if self.is_open and is_first:
-            self.moves.begin()
+            self.begin()
 
     def on_terminate(self, _):
         self.close("the session is over")
@@ -145,7 +139,7 @@ class Session(Engine):
             self.debugger.stop(self.is_open, LOG_PATIENCE if self.launch.log else 1.0)
         for identity in self.threads:
             self.event("thread", reason="exited", threadId=identity)
-        for it in self.breakpoints.all:
+        for it in self.points:
             it.clear(why)
         if self.is_open and self.launch.log:
             self.say(self.launch.verdict())
@@ -209,7 +203,7 @@ class Session(Engine):
             self.event("exited", exitCode=int(fields.get("exit-code", "0"), 8))
             self.debugger.process.stdin.close()
         elif told.name == "stopped":
-            self.moves.stopped(self.threads[int(fields["thread-id"])], fields)
+            self.stopped(self.threads[int(fields["thread-id"])], fields)
 
     def take_ended(self):
         """The debugger has ended: with the program, with its budget, or because it refused something."""

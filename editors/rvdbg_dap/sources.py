@@ -1,6 +1,7 @@
 """Files of source: where those stand that the program's tables name, and which of those an editor's file is."""
 
 import contextlib
+import functools
 import os
 import time
 
@@ -18,12 +19,8 @@ def shown(name):
 class Sources:
     """Where files are: those that the editor named, then those in the folders, then what stands below them."""
 
-    def __init__(self):
-        self.program, self.folders, self.told, self.found, self.below, self.missing = None, [], [], {}, None, []
-
-    def look_in(self, folders, program):
-        """Looks for a program's files in these folders."""
-        self.folders, self.program, self.found, self.below = folders, program, {}, None
+    def __init__(self, program=None, folders=(), told=(), missing=()):
+        self.program, self.folders, self.told, self.missing, self.found = program, folders, [*told], [*missing], {}
 
     def tell(self, path):
         """The editor has this file."""
@@ -33,9 +30,9 @@ class Sources:
     def location(self, place):
         """Where a breakpoint at PATH:LINE goes: FILE:LINE, or an address where several files have that last name."""
         path, line = place.rsplit(":", 1)
-        base, lines = os.path.basename(path), self.program.lines
-        like, near = {it for it in lines.paths if shown(os.path.basename(it)) == base}, lines.closest(path)
-        address = lines.address(near, int(line)) if near != like else None
+        base, program = os.path.basename(path), self.program
+        like, near = {it for it in program.files if shown(os.path.basename(it)) == base}, program.closest(path)
+        address = program.address(near, int(line)) if near != like else None
         file = min(map(os.path.basename, like), default=base)
         return "%s:%d" % (file, int(line)) if address is None else "*0x%08x" % address
 
@@ -46,34 +43,34 @@ class Sources:
             near = [it for it in self.told if os.path.basename(it) == base]
             near += [os.path.join(it, name) for it in self.folders]
             near = [it for it in near if os.path.isfile(it) and self.is_like(it, name)]
-            far = [] if near else [it for it in self.walk().get(base, []) if self.is_like(it, name)]
+            far = [] if near else [it for it in self.below.get(base, []) if self.is_like(it, name)]
             far.sort(key=lambda it: (-tail(it, name), -len(os.path.commonpath([it, self.program.path]))))
             self.found[name] = next(map(os.path.normpath, near + far), None)
         return self.found[name]
 
     def is_like(self, path, name):
         """Whether no other file of the program's has more folders in common with the path than this one."""
-        return name not in self.program.lines.paths or name in (self.program.lines.closest(path) or {name})
+        return name not in self.program.files or name in (self.program.closest(path) or {name})
 
-    def walk(self):
-        """The files below the folders by their last names, the upper ones first: once, and not for long."""
-        if self.below is None:
-            ahead, self.below, ends = [*self.folders], {}, time.monotonic() + LONGEST_SEARCH
-            for folder in ahead:
-                with contextlib.suppress(OSError):
-                    for it in sorted(os.scandir(folder), key=lambda it: it.name):
-                        if not it.is_dir(follow_symlinks=False):
-                            self.below.setdefault(it.name, []).append(it.path)
-                        elif not it.name.startswith("."):
-                            ahead.append(it.path)
-                if time.monotonic() > ends:
-                    break
-        return self.below
+    @functools.cached_property
+    def below(self):
+        """The files below the folders by their last names, the upper ones first: what is found within a second."""
+        ahead, found, ends = [*self.folders], {}, time.monotonic() + LONGEST_SEARCH
+        for folder in ahead:
+            with contextlib.suppress(OSError):
+                for it in sorted(os.scandir(folder), key=lambda it: it.name):
+                    if not it.is_dir(follow_symlinks=False):
+                        found.setdefault(it.name, []).append(it.path)
+                    elif not it.name.startswith("."):
+                        ahead.append(it.path)
+            if time.monotonic() > ends:
+                break
+        return found
 
     def source(self, name, address):
         """What the editor is told of an address's file. One that isn't found, or can't be named, has a number."""
-        like = self.program.lines.closest(os.path.basename(name))
-        row = self.program.lines.at(address) if len(like) > 1 else None
+        like = self.program.closest(os.path.basename(name))
+        row = self.program.row(address) if len(like) > 1 else None
         name = row.path if row and row.path in like else min(like, default=name)
         path = self.path(name)
         if path and shown(path) == path:

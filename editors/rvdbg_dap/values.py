@@ -2,8 +2,8 @@
 
 import re
 
-from rvdbg_dap.engine import Part
 from rvdbg_dap.instructions import NAMES
+from rvdbg_dap.memory import Memory
 from rvdbg_dap.mi import Refused, c_string, need
 
 # A frame's number is made of its thread and its level, a reference to variables of what they are and of the frame.
@@ -42,51 +42,41 @@ def bare_names(text):
     return [(at, name) for at, name in names(text) if name[0] != "$"]
 
 
-def unknown_name(text, refusal):
-    """The place of a bare name for which the debugger refused a text, and the name; another refusal stays one."""
-    found = re.match(r"No symbol in expression at (\d+)", str(refusal))
-    for at, name in bare_names(text):
-        if found and text.isascii() and at == int(found[1]):
-            return at, name
-    raise refusal
-
-
-def zeros(text):
-    """The text with a number as long in the place of each bare name: what else is wrong with it stays where it is."""
-    for at, name in bare_names(text):
-        text = text[:at] + "0" * len(name) + text[at + len(name) :]
+def replaced(text, stands):
+    """The text with what stands for its bare names, as far as something does."""
+    for at, name in reversed(bare_names(text)):
+        text = text[:at] + stands.get(name, name) + text[at + len(name) :]
     return text
 
 
-class Values(Part):
+class Values(Memory):
     """The part of a session that looks at threads which stand."""
 
     def on_stack_trace(self, arguments):
-        thread = self.engine.thread(arguments["threadId"])
+        thread, told = self.thread(arguments["threadId"]), []
         rows = self.ask("-stack-list-frames --thread %d" % thread.identity)["stack"]
         first, most = (max(0, int(arguments.get(it) or 0)) for it in ("startFrame", "levels"))
-        wanted = rows[first : first + most] if most else rows[first:]
-        return {"stackFrames": [self.frame(thread, it) for it in wanted], "totalFrames": len(rows)}
-
-    def frame(self, thread, row):
-        """What the editor is told of a frame. The place of an outer one is behind its call."""
-        told = {"id": thread.identity * LEVELS + int(row["level"]), "name": row.get("func", row["addr"])}
-        told.update(line=0, column=0, instructionPointerReference=row["addr"])
-        if "file" in row:
-            source = self.engine.sources.source(row["file"], int(row["addr"], 16) - (row["level"] != "0"))
-            told.update(source=source, line=int(row["line"]), column=1)
-        return told
+        for row in rows[first : first + most] if most else rows[first:]:
+            level, address = int(row["level"]), int(row["addr"], 16)
+            frame = {"id": thread.identity * LEVELS + level, "name": row.get("func", row["addr"])}
+            frame.update(line=0, column=0, instructionPointerReference=row["addr"])
+            if "file" in row:
+                # (the place of an outer frame is behind its call)
+                source = self.sources.source(row["file"], address - (level > 0))
+                frame.update(source=source, line=int(row["line"]), column=1)
+            told.append(frame)
+        return {"stackFrames": told, "totalFrames": len(rows)}
 
     def on_source(self, arguments):
-        return {"content": self.engine.sources.text(arguments["sourceReference"]), "mimeType": "text/plain"}
+        return {"content": self.sources.text(arguments["sourceReference"]), "mimeType": "text/plain"}
 
     def framed(self, number):
-        """The thread and the level of a frame's number."""
-        return self.engine.thread(number // LEVELS), number % LEVELS
+        return self.thread(number // LEVELS), number % LEVELS
 
     def listed(self, thread):
-        """The variables of a thread's innermost frame."""
-        return self.ask("-stack-list-variables --thread %d 1" % thread.identity)["variables"]
+        """The variables of a thread's innermost frame with what is shown of each: of one name the innermost."""
+        rows = self.ask("-stack-list-variables --thread %d 1" % thread.identity)["variables"]
+        return {it["name"]: it["value"] for it in reversed(rows)}
 
     def on_scopes(self, arguments):
         number = arguments["frameId"]
@@ -101,7 +91,8 @@ class Values(Part):
         if kind == REGISTERS:
             return {"variables": [self.register(at, word, number) for at, word in self.registers(thread)]}
         if kind in (LOCALS, ARGUMENTS):
-            listed = [] if level else self.listed(thread)
+            line = "-stack-list-variables --thread %d 1" % thread.identity
+            listed = [] if level else self.ask(line)["variables"]
             rows = [(it["name"], it["value"]) for it in listed if ("arg" in it) == (kind == ARGUMENTS)]
         else:
             ((_, word),) = self.registers(thread, kind - RADIXES)
@@ -139,72 +130,67 @@ class Values(Part):
         return int(text, 0) if NUMBER.fullmatch(text.strip()) else int(self.evaluated(text, frame)[0])
 
     def evaluate(self, text, frame):
-        """An expression's value, as the editor is told it."""
-        value, taken = self.evaluated(text, frame)
+        value, notes = self.evaluated(text, frame)
         if not NUMBER.fullmatch(value):
             return {"result": value, "variablesReference": 0}
         word = "0x%08x" % (int(value) % WORD)
-        result = ", with ".join(["%s (%s)" % (value, word), *taken])
+        result = ", with ".join(["%s (%s)" % (value, word), *notes])
         return {"result": result, "variablesReference": 0, "memoryReference": word}
 
     def evaluated(self, text, frame):
-        """An expression's value in a frame, and what its names stand for: without a frame all are those of symbols."""
-        thread, level = self.framed(frame) if frame else (next(iter(self.engine.standing()), None), 0)
+        """An expression's value in a frame with notes. Without a frame its names are those of symbols."""
+        thread, level = self.framed(frame) if frame else (next(iter(self.standing()), None), 0)
         need(thread, "no thread stands")
         for _, it in names(text):
             need(not level and (frame or it[0] != "$"), NOT_HERE, it)
-        taken = []
-        for at, name in reversed([] if frame else bare_names(text)):
-            text = self.with_symbol(text, at, name, None, taken)
-        return self.value(thread, text, taken)
+        stands = {} if frame else {it: self.at_symbol(it, None) for _, it in bare_names(text)}
+        return self.value(thread, text, stands)
 
-    def value(self, thread, text, taken=()):
-        """The value of an expression in a thread's innermost frame, and what its names stand for."""
-        asked, taken = text, [*taken]
+    def value(self, thread, text, stands=()):
+        """The value of an expression in a thread's innermost frame, and notes of what stands for its names."""
+        line, stands = "-data-evaluate-expression --thread %d " % thread.identity, dict(stands)
         while True:
-            try:
-                line = "-data-evaluate-expression --thread %d %s" % (thread.identity, c_string(asked))
-                return self.ask(line)["value"], taken
-            except Refused as refusal:
-                at, name = unknown_name(asked, refusal)
+            asked = replaced(text, stands)
+            result, _ = self.reply(line + c_string(asked))
+            if result.name == "done":
+                return result.fields["value"], ["`%s` as %s" % (name, it[1:-1]) for name, it in stands.items()]
+            unknown = re.match(r"No symbol in expression at (\d+)", result.fields["msg"])
+            name = unknown and asked.isascii() and dict(bare_names(asked)).get(int(unknown[1]))
+            need(name, "%s", result.fields["msg"])
             listed = self.listed(thread)
-            for it in listed:
-                if it["name"] == text.strip():
-                    return it["value"], taken
-            asked = self.with_symbol(asked, at, name, listed, taken)
+            if name == text.strip() and name in listed:
+                return listed[name], []
+            stands[name] = self.at_symbol(name, listed)
 
-    def with_symbol(self, text, at, name, listed, taken):
-        """The text with what is at a symbol in a name's place, where none of the variables of a frame hides it."""
-        program = self.engine.program
+    def at_symbol(self, name, listed):
+        """What reads the bytes at a symbol, where none of the variables that a frame has hides it."""
+        program = self.program
         places = program.symbols.get(name, ())
-        for it in listed or ():
-            need(it["name"] != name, "%s is %s", name, it["value"])
+        need(name not in (listed or ()), "%s is %s", name, (listed or {}).get(name))
         need(places, "there is no variable and no symbol `%s` here", name)
         need(listed is None or not program.has_unread, UNREAD, name, name)
         need(len(places) == 1, "there are several symbols `%s`", name)
         ((address, size),) = places
         need(not program.is_text(address), "`%s` is code: write &%s for its address", name, name)
         need(size in SIZES, LARGE, name, size, name)
-        taken.append("`%s` as {%s} &%s" % (name, SIZES[size], name))
-        return "%s({%s} &%s)%s" % (text[:at], SIZES[size], name, text[at + len(name) :])
+        return "({%s} &%s)" % (SIZES[size], name)
 
     def in_core(self, thread, text):
         """A condition over globals of 4 bytes as one that the debugger can judge. Another one is refused."""
-        listed = self.listed(thread)
-        for at, name in reversed(bare_names(text)):
-            text = self.with_symbol(text, at, name, listed, [])
-            need(text[at:].startswith("({int}"), "%s hasn't 4 bytes", name)
-            is_unsigned = self.value(thread, "((%s & 0) - 1) / 2" % name)[0] != "0"
-            text = text[:at] + text[at:].replace("int", "unsigned int", 1) if is_unsigned else text
-        return text
+        stands, listed = {}, self.listed(thread)
+        for _, name in bare_names(text):
+            stands[name] = self.at_symbol(name, listed)
+            need(stands[name].startswith("({int}"), "%s hasn't 4 bytes", name)
+            if self.value(thread, "((%s & 0) - 1) / 2" % name)[0] != "0":
+                stands[name] = stands[name].replace("int", "unsigned int", 1)
+        return replaced(text, stands)
 
     def place(self, text, frame):
         """The type and the address of what an expression reads: `{type} e`, or the name of a global."""
         found, (thread, level) = PLACE.fullmatch(text), self.framed(frame) if frame else (None, 0)
         if found is None:
             need(not level and NAME.fullmatch(text), NO_PLACE)
-            listed = self.listed(thread) if frame else None
-            found = PLACE.fullmatch(self.with_symbol(text, 0, text, listed, [])[1:-1])
+            found = PLACE.fullmatch(self.at_symbol(text, self.listed(thread) if frame else None)[1:-1])
         return found[1], int(self.evaluated(found[2], frame)[0]) % WORD
 
     def on_set_expression(self, arguments):
@@ -214,7 +200,7 @@ class Values(Part):
         kind, address = self.place(text, frame)
         content = (self.number(value, frame) % (1 << 8 * WIDTHS[kind])).to_bytes(WIDTHS[kind], "little")
         self.ask("-data-write-memory-bytes 0x%08x %s" % (address, content.hex()))
-        self.engine.written(address, len(content))
+        self.written(address, len(content))
         return {"value": self.evaluate(text, frame)["result"]}
 
     def on_data_breakpoint_info(self, arguments):
@@ -226,7 +212,7 @@ class Values(Part):
             need(not arguments.get("variablesReference"), "registers and variables of a frame can't be watched")
             kind, address = self.place(name, frame)
             text = name if name[0] == "{" else "{%s} &%s" % (kind, name)
-            is_data = size in (None, WIDTHS[kind]) and not self.engine.program.is_text(address)
+            is_data = size in (None, WIDTHS[kind]) and not self.program.is_text(address)
             need(is_data and not [*names(text)], UNWATCHED)
         except Refused as refusal:
             return {"dataId": None, "description": str(refusal)}
