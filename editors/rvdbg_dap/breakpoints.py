@@ -19,22 +19,21 @@ class Breakpoint:
 
     def __init__(self, identity, group, place, wanted):
         self.identity, self.group, self.place, self.source = identity, group, place, wanted.get("source")
-        self.condition, self.hits = wanted.get("condition") or None, wanted.get("hitCondition") or None
-        self.log, self.is_write = wanted.get("logMessage") or None, wanted.get("accessType", "write") == "write"
-        self.is_once = bool(self.hits) and "==" in self.hits
-        self.words = self.place, self.condition, self.hits, self.log, self.is_write
+        keys = ("condition", "hitCondition", "logMessage", "accessType")
+        self.condition, self.hits, self.log, self.access = [wanted.get(it) or "" for it in keys]
+        self.words, self.is_once = (place, self.condition, self.hits, self.log, self.access), "==" in self.hits
         self.clear("no program is loaded")
 
     def clear(self, why):
         """It isn't in the debugger. `is_judged` says that the adapter judges, and `early` for which threads alone."""
         self.number, self.state, self.early, self.said = None, ("y", None), set(), set()
-        self.is_spent, self.is_looked_at, self.is_judged = False, False, bool(bare_names(self.condition or ""))
+        self.is_spent, self.is_looked_at, self.is_judged = False, False, bool(bare_names(self.condition))
         self.told = {"id": self.identity, "verified": False, "message": why}
 
     def command(self, place):
         """The line that sets it. What is wrong with a condition beside its names is found by zeros in their places."""
         if self.group == "data":
-            is_plain = self.is_write and not self.condition and not self.hits
+            is_plain = self.access in ("", "write") and not self.condition and not self.hits
             need(is_plain, "a watch is of writes, and has neither a condition nor a count")
             return "-break-watch " + c_string(place)
         more = "-d " if self.is_judged else "-t " if self.is_once else ""
@@ -57,7 +56,6 @@ class Breakpoints(Engine):
         self.points, self.identities, self.dropped = [], itertools.count(1), set()
 
     def point(self, number):
-        """The one that has this number in the debugger, or None."""
         return next((it for it in self.points if number is not None and it.number == number), None)
 
     def replace_points(self, group, wanted):
@@ -67,10 +65,9 @@ class Breakpoints(Engine):
             like = [it for it in self.points if it.group in (group, CONSOLE) and it.words == new.words and it not in now]
             now.append(min(like, key=lambda it: it.group == CONSOLE, default=new))
             now[-1].group, now[-1].source = group, new.source
-        gone = [it for it in self.points if it.group == group and it not in now]
-        self.points = [it for it in self.points if it.group != group] + now
-        for it in gone:
+        for it in [it for it in self.points if it.group == group and it not in now]:
             self.delete_point(it)
+        self.points = [it for it in self.points if it.group != group] + now
         for it in now:
             if self.is_open and it.number is None and not it.is_spent:
                 self.insert_point(it)
@@ -84,7 +81,6 @@ class Breakpoints(Engine):
                 self.ask("-break-delete " + it.number)
 
     def insert_point(self, it):
-        """Sets one in the debugger, or says at it why not."""
         try:
             made = self.ask(it.command(self.sources.location(it.place) if it.source else it.place))
             row = made.get("wpt") or made["bkpt"]
@@ -95,7 +91,6 @@ class Breakpoints(Engine):
             it.clear(str(refusal))
 
     def set_point(self, it, row):
-        """Takes over what the debugger says of one that is set."""
         it.number, it.state = row["number"], (row.get("enabled", "y"), row.get("cond"))
         it.told = {"id": it.identity, "verified": True}
         if "file" in row:
@@ -119,7 +114,6 @@ class Breakpoints(Engine):
         self.event("breakpoint", reason=reason, breakpoint=it.told)
 
     def remove_point(self, it):
-        """One is no more."""
         self.points.remove(it)
         self.tell_point("removed", it)
 
@@ -161,9 +155,8 @@ class Breakpoints(Engine):
             self.tell_point(reason, it)
 
     def on_set_breakpoints(self, arguments):
-        source, rows = arguments["source"], arguments.get("breakpoints")
+        source, rows = arguments["source"], arguments.get("breakpoints") or []
         path = source.get("path") or source["name"]
-        rows = [{"line": it} for it in arguments.get("lines") or []] if rows is None else rows
         self.sources.tell(path)
         return self.replace_points("source " + path, [("%s:%d" % (path, it["line"]), dict(it, source=source)) for it in rows])
 

@@ -3,8 +3,8 @@
 import time
 
 from rvdbg_dap.mi import Refused, need
+from rvdbg_dap.program import Sources
 from rvdbg_dap.protocol import Client
-from rvdbg_dap.sources import Sources
 
 # The events that only some editors take, and by which word these say so.
 ASKED = {"memory": "supportsMemoryEvent", "invalidated": "supportsInvalidatedEvent"}
@@ -61,5 +61,4 @@ class Engine:
             send(dict(type="event", event=event, body=body))
 
     def say(self, text, category="console", **place):
-        """Puts a line where the editor shows output, at once."""
         self.client.send(dict(type="event", event="output", body=dict(category=category, output=text + "\n", **place)))

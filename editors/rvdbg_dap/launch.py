@@ -10,16 +10,15 @@ from rvdbg_dap.mi import need
 
 CLONE = os.path.dirname(os.path.dirname(os.path.dirname(os.path.realpath(__file__))))
 
-# The least and the greatest of each number, and what isn't left to the debugger where it isn't given.
-NUMBERS = {"harts": (1, 16), "workers": (0, 16), "budget": (1, 10**12), "slots": (0, 512), "slice": (0, 1024)}
-DEFAULTS = {"workers": 0, "budget": 10**12}
+# The least and the greatest of each number, and what it is where it isn't given.
+NUMBERS = {"harts": (1, 16, 1), "workers": (0, 16, 0), "budget": (1, 10**12, 10**12)}
+NUMBERS.update(slots=(0, 512, 16), slice=(0, 1024, 256))
 KNOWN = {*NUMBERS, "program", "stopOnEntry", "sourcePath", "rvdbg", "log", "singleThread"}
 # The requests that move one thread alone.
 ALONE = {"never": (), "step": ("step",), "always": ("step", "continue")}
 # What editors put beside them for themselves.
 EDITORS = set("name type request cwd env noDebug presentation preLaunchTask postDebugTask debugServer".split())
 EDITORS |= {"internalConsoleOptions", "serverReadyAction", "suppressMultipleSessionWarning"}
-LONGEST_CHECK = "10"
 
 
 def full(path):
@@ -37,9 +36,9 @@ class Launch:
         need(self.log != self.program, "the log can't be the program itself")
         self.rvdbg = full(arguments.get("rvdbg") or os.path.join(CLONE, "rvdbg"))
         need(os.access(self.rvdbg, os.X_OK), "%s doesn't start: it isn't there, or no program", self.rvdbg)
-        given, self.words = dict(DEFAULTS, **arguments), [self.rvdbg]
-        for name in [it for it in NUMBERS if it in given]:
-            (least, greatest), number = NUMBERS[name], str(given[name])
+        self.words = [self.rvdbg]
+        for name, (least, greatest, default) in NUMBERS.items():
+            number = str(arguments.get(name, default))
             is_fine = re.fullmatch("[0-9]{1,13}", number) and least <= int(number) <= greatest
             need(is_fine, "%s is a number from %d to %d, not %.50s", name, least, greatest, number)
             self.words.append("--%s=%s" % (name, number))
@@ -65,11 +64,10 @@ class Launch:
                 file.write(drawn)
         except OSError as error:
             return "%s: %s" % (error.filename, error.strerror)
-        said = said or "the check takes more than %s s" % LONGEST_CHECK
-        return "%s: %s; its picture is %s" % (self.log, said, picture)
+        return "%s: %s; its picture is %s" % (self.log, said or "the check takes more than ten seconds", picture)
 
     def fed(self, *words):
         """Has a command read the log, and gives what it writes: not for long, nor behind an adapter that is killed."""
-        words = ["timeout", "-k", "1", LONGEST_CHECK, *words]
+        words = ["timeout", "-k", "1", "10", *words]
         with open(self.log, "rb") as log:
             return subprocess.run(words, stdin=log, stdout=subprocess.PIPE, stderr=subprocess.DEVNULL).stdout

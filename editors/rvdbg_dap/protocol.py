@@ -75,7 +75,6 @@ class Client:
             whole = whole[os.write(self.writes, whole) :]
 
     def answer(self, request, body=None, error=None):
-        """Answers a request, by a body or by what is wrong."""
         message = dict(type="response", request_seq=request["seq"], command=request["command"], success=error is None)
         if error is not None:
             body = {"error": {"id": 1, "format": re.sub("[{}]", "", error), "showUser": True}}

@@ -10,8 +10,7 @@ import time
 from rvdbg_dap.engine import Thread
 from rvdbg_dap.launch import Launch
 from rvdbg_dap.mi import Debugger, Refused, need, record, stream
-from rvdbg_dap.program import Program
-from rvdbg_dap.sources import Sources
+from rvdbg_dap.program import Program, Sources
 from rvdbg_dap.threads import Threads
 
 PATIENCE, LOG_PATIENCE = 10.0, 20.0
@@ -91,6 +90,8 @@ class Session(Threads):
             log = open(launch.log, "wb") if launch.log else None
             self.debugger = Debugger(launch.words, self.inbox, log)
         except OSError as error:
+            if self.request["command"] == "restart":
+                self.event("terminated")
             raise Refused("%s: %s" % (error.filename, error.strerror)) from error
         self.launch, self.opening = launch, self.request
         return LATER
@@ -100,14 +101,9 @@ class Session(Threads):
         launch = Launch(arguments.get("arguments") or self.launch.arguments)
         self.close("the session begins anew")
         self.is_configured = True
-        try:
-            return self.start(launch)
-        except Refused:
-            self.event("terminated")
-            raise
+        return self.start(launch)
 
     def opened(self):
-        """The debugger has accepted the program."""
         is_first, self.is_open = self.opening["command"] == "launch", True
         self.answer_opening()
         for it in self.program.lacks():
@@ -149,7 +145,7 @@ class Session(Threads):
         self.answer_opening(error=why)
 
     def answer_opening(self, **answer):
-        """Answers the request that has begun a session, where that isn't done yet."""
+        """Answers the request that begins a session, where that isn't done yet."""
         if self.progress:
             self.event("progressEnd", progressId=self.progress)
         request, self.opening, self.progress = self.opening, None, None
@@ -218,7 +214,6 @@ class Session(Threads):
 
 
 def main():
-    """Serves the editor on standard input and output."""
     signal.signal(signal.SIGTERM, lambda *_: sys.exit(1))
     session = Session(queue.Queue())
     try:

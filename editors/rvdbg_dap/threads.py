@@ -17,7 +17,6 @@ OUTER = "the frame that is shown is an outer one, of which this isn't known: sho
 
 
 class Threads(Breakpoints, Values):
-    """The part of a session that moves threads."""
 
     def stopped(self, thread, fields):
         """A thread has stopped. One that a log point or a condition stopped for the adapter alone goes on."""
@@ -38,7 +37,6 @@ class Threads(Breakpoints, Values):
             self.tell_stop(thread, reason, **told)
 
     def reason(self, thread, fields):
-        """Why a thread has stopped, in the protocol's words."""
         reason, text = REASONS.get(fields["reason"], "step"), None
         if reason == "data breakpoint":
             text = "%s was %s, is %s" % (fields["wpt"]["exp"], fields["value"]["old"], fields["value"]["new"])

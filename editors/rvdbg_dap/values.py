@@ -2,8 +2,7 @@
 
 import re
 
-from rvdbg_dap.instructions import NAMES
-from rvdbg_dap.memory import Memory
+from rvdbg_dap.memory import NAMES, Memory
 from rvdbg_dap.mi import Refused, c_string, need
 
 # A frame's number is made of its thread and its level, a reference to variables of what they are and of the frame.
@@ -50,7 +49,6 @@ def replaced(text, stands):
 
 
 class Values(Memory):
-    """The part of a session that looks at threads which stand."""
 
     def on_stack_trace(self, arguments):
         thread, told = self.thread(arguments["threadId"]), []
@@ -100,7 +98,6 @@ class Values(Memory):
         return {"variables": [{"name": name, "value": value, "variablesReference": 0} for name, value in rows]}
 
     def registers(self, thread, number=""):
-        """The numbers and words of all registers, or of one."""
         found = self.ask("-data-list-register-values --thread %d x %s" % (thread.identity, number))
         return [(int(it["number"]), int(it["value"], 16)) for it in found["register-values"]]
 
