@@ -1,6 +1,7 @@
 """Breakpoints and watches: those that the editor wants and those of the console, and their numbers in the debugger."""
 
 import contextlib
+import functools
 import itertools
 import re
 
@@ -58,11 +59,12 @@ class Breakpoints(Engine):
     def point(self, number):
         return next((it for it in self.points if number is not None and it.number == number), None)
 
-    def replace_points(self, group, wanted):
-        """Makes these a group, each a place and what the editor says. Those that are there keep their counts."""
-        now = []
-        for new in [Breakpoint(next(self.identities), group, *it) for it in wanted]:
-            like = [it for it in self.points if it.group in (group, CONSOLE) and it.words == new.words and it not in now]
+    def replace_points(self, group, place_of, arguments):
+        """Makes what the editor wants a group. Those that are there keep their counts."""
+        rows, now = [dict(it, source=arguments.get("source")) for it in arguments.get("breakpoints") or []], []
+        for new in [Breakpoint(next(self.identities), group, place_of(it), it) for it in rows]:
+            known = [it for it in self.points if it.group in (group, CONSOLE) and it not in now]
+            like = [it for it in known if it.words == new.words]
             now.append(min(like, key=lambda it: it.group == CONSOLE, default=new))
             now[-1].group, now[-1].source = group, new.source
         for it in [it for it in self.points if it.group == group and it not in now]:
@@ -108,14 +110,11 @@ class Breakpoints(Engine):
             self.remove_point(it)
         for it in self.points:
             self.insert_point(it)
-            self.tell_point("changed", it)
-
-    def tell_point(self, reason, it):
-        self.event("breakpoint", reason=reason, breakpoint=it.told)
+            self.event("breakpoint", reason="changed", breakpoint=it.told)
 
     def remove_point(self, it):
         self.points.remove(it)
-        self.tell_point("removed", it)
+        self.event("breakpoint", reason="removed", breakpoint=it.told)
 
     def spend_point(self, it):
         """One that was for one stop has made it."""
@@ -124,14 +123,7 @@ class Breakpoints(Engine):
         if it.group == CONSOLE:
             self.remove_point(it)
         else:
-            self.tell_point("changed", it)
-
-    def hand_over(self, it, condition):
-        """Has the debugger judge a condition. Threads that stand there already are judged by the adapter."""
-        self.ask("-break-condition %s %s" % (it.number, c_string(condition)))
-        it.is_judged, it.state, rows = False, (it.state[0], condition), self.ask("-thread-info")["threads"]
-        stand = {int(row["id"]) for row in rows if row["state"] == "stopped"}
-        it.early = {key for key in stand & {*self.threads} if self.threads[key].is_running}
+            self.event("breakpoint", reason="changed", breakpoint=it.told)
 
     def agree(self):
         """Behind a line of the console: what came, went or changed in the debugger is told to the editor."""
@@ -152,23 +144,18 @@ class Breakpoints(Engine):
             if state != ("y", None):
                 is_on = state[0] == "y"
                 it.told.update(verified=is_on, message="on if %s" % state[1] if is_on else "off by the console")
-            self.tell_point(reason, it)
+            self.event("breakpoint", reason=reason, breakpoint=it.told)
 
     def on_set_breakpoints(self, arguments):
-        source, rows = arguments["source"], arguments.get("breakpoints") or []
-        path = source.get("path") or source["name"]
+        path = arguments["source"].get("path") or arguments["source"]["name"]
         self.sources.tell(path)
-        return self.replace_points("source " + path, [("%s:%d" % (path, it["line"]), dict(it, source=source)) for it in rows])
-
-    def on_set_function_breakpoints(self, arguments):
-        return self.replace_points("function", [(it["name"], it) for it in arguments["breakpoints"]])
-
-    def on_set_instruction_breakpoints(self, arguments):
-        rows = arguments["breakpoints"]
-        return self.replace_points("instruction", [("*0x%08x" % place(it, "instructionReference"), it) for it in rows])
-
-    def on_set_data_breakpoints(self, arguments):
-        return self.replace_points("data", [(it["dataId"], it) for it in arguments["breakpoints"]])
+        return self.replace_points("source " + path, lambda it: "%s:%d" % (path, it["line"]), arguments)
 
     def on_set_exception_breakpoints(self, _):
         """Every trap stops its thread; there is nothing to choose."""
+
+    on_set_function_breakpoints = functools.partialmethod(replace_points, "function", lambda it: it["name"])
+    on_set_instruction_breakpoints = functools.partialmethod(
+        replace_points, "instruction", lambda it: "*0x%08x" % place(it, "instructionReference")
+    )
+    on_set_data_breakpoints = functools.partialmethod(replace_points, "data", lambda it: it["dataId"])

@@ -34,7 +34,7 @@ AMOS = {0: "add", 1: "swap", 4: "xor", 8: "or", 12: "and", 16: "min", 20: "max",
 for code, amo in AMOS.items():
     for bits, order in enumerate(("", ".rl", ".aq", ".aqrl")):
         FORMS[AMO, code << 2 | bits] = ("- - amo%s.w%s" % (amo, order), "{rd},{rs2},({rs1})")
-ACCESSES = {LOAD: (" loads from 0x%08x", "number"), STORE: (" stores to 0x%08x", "stored"), AMO: (" changes 0x%08x", "")}
+ACCESSES = {LOAD: ("loads from", "number"), STORE: ("stores to", "stored"), AMO: ("changes", None)}
 FLOATS = (0x07, 0x27, 0x43, 0x47, 0x4B, 0x4F, 0x53)
 CSRS = "system csrrw csrrs csrrc system csrrwi csrrsi csrrci".split()
 
@@ -50,7 +50,7 @@ class Instruction:
         number, stored = sign << 11 | word >> 20 & 0x7FF, sign << 11 | word >> 20 & 0x7E0 | word >> 7 & 0x1F
         self.fields = {it: NAMES[word >> at & 31] for it, at in (("rd", 7), ("rs1", 15), ("rs2", 20))}
         self.fields.update(number=number, stored=stored, upper=word >> 12, shift=word >> 20 & 31)
-        self.fields.update(branch=(pc + branch) % (1 << 32), jump=(pc + jump) % (1 << 32), pc=pc)
+        self.fields.update(branch=(pc + branch) % WORD, jump=(pc + jump) % WORD, pc=pc)
 
     def text(self):
         for key in (self.opcode, (self.opcode, self.high), (self.word,)):
@@ -64,9 +64,9 @@ class Instruction:
         """What it does, where the registers hold this, that it has trapped."""
         if self.text() is None:
             return "at 0x%08x is %s" % (self.fields["pc"], self.foreign())
-        what, offset = ACCESSES.get(self.opcode, ("", ""))
-        address = (registers[self.word >> 15 & 31] + self.fields.get(offset, 0)) % (1 << 32)
-        return "`%s` at 0x%08x%s" % (self.text(), self.fields["pc"], what and what % address)
+        does, offset = ACCESSES.get(self.opcode, ("", None))
+        there = "0x%08x" % ((registers[self.word >> 15 & 31] + self.fields.get(offset, 0)) % WORD)
+        return " ".join(["`%s` at 0x%08x" % (self.text(), self.fields["pc"]), *([does, there] if does else [])])
 
     def foreign(self):
         if self.word & 3 != 3:

@@ -34,7 +34,6 @@ def need(is_so, text, *words):
 
 
 def c_string(text):
-    """A text as one word of a line."""
     return '"%s"' % ODD.sub(lambda it: b"\\%03o" % it[0][0], text.encode("utf-8", "surrogateescape")).decode()
 
 

@@ -1,4 +1,4 @@
-"""A program's file: its symbols, as `docs/FORMATS.md` counts them, its lines (DWARF 2 to 5), and where its source is."""
+"""A program's file: its symbols, as `docs/FORMATS.md` counts them, its lines (DWARF 2 to 5), and its source."""
 
 import bisect
 import collections
@@ -129,6 +129,8 @@ class Program:
         # Whether variables may be there that the debugger doesn't read: in units of DWARF 5.
         versions = [int.from_bytes(it[:2], "little") for it in units(self.sections.get(".debug_info", b""))]
         self.has_unread = max(versions, default=0) > 4
+        self.lacks = "its variables in the form of DWARF 5, which isn't read" if self.has_unread else ""
+        self.lacks = self.lacks if self.units else "no table of lines"
 
     def read(self, whole):
         """Reads the sections, System V gABI 4.4, and those of the first table of symbols that count."""
@@ -181,13 +183,6 @@ class Program:
         """Of the files with the last name of a path those whose folders have most in common with its own."""
         most = max((tail(it, path) for it in self.files), default=0)
         return {it for it in self.files if most and tail(it, path) == most}
-
-    def lacks(self):
-        """What the file lacks for a session with its source."""
-        if not self.sections.get(".debug_line"):
-            yield "%s has no table of lines: build it with -gdwarf-4" % self.path
-        elif self.has_unread:
-            yield "%s has its variables in the form of DWARF 5, which isn't read: build it with -gdwarf-4" % self.path
 
 
 def shown(name):

@@ -39,12 +39,20 @@ class Session(Threads):
         """Does what comes, in its order, until the editor goes."""
         while not self.is_done:
             origin, kind, *rest = self.inbox.get()
+            if kind == "gone":
+                raise BrokenPipeError
             self.deadline = time.monotonic() + PATIENCE
-            try:
-                if origin in (self.client, self.debugger):
-                    getattr(self, "take_" + kind)(*rest)
-            except Refused as refusal:
-                self.say(str(refusal))
+            if origin in (self.client, self.debugger):
+                self.attempt(getattr(self, "take_" + kind), *rest)
+
+    def attempt(self, do, *words):
+        """Does something with what has come, or says why not."""
+        try:
+            do(*words)
+        except Refused as refusal:
+            self.say(str(refusal))
+        except MALFORMED as error:
+            self.say("what came isn't understood: %.200r (%.200r)" % (words, error))
 
     def take_message(self, message, fault):
         """Does a request, and answers it. What it brings about is told behind the answer."""
@@ -66,9 +74,6 @@ class Session(Threads):
         self.request, after, self.after = None, self.after, []
         for event in after:
             self.client.send(event)
-
-    def take_gone(self):
-        raise BrokenPipeError
 
     def on_initialize(self, arguments):
         is_fine = arguments.get("linesStartAt1") is not False and arguments.get("pathFormat", "path") == "path"
@@ -106,8 +111,8 @@ class Session(Threads):
     def opened(self):
         is_first, self.is_open = self.opening["command"] == "launch", True
         self.answer_opening()
-        for it in self.program.lacks():
-            self.say(it)
+        if self.program.lacks:
+            self.say("%s has %s: build it with -gdwarf-4" % (self.program.path, self.program.lacks))
         self.insert_points()
         if is_first:
             self.event("initialized")
@@ -169,16 +174,9 @@ class Session(Threads):
         """What happened by itself, and what the program wrote, which is put together."""
         for is_output, group in itertools.groupby(lines, lambda it: it.startswith(b"@")):
             if is_output:
-                output = self.debugger.decode(b"".join(map(stream, group)))
-                self.event("output", category="stdout", output=output)
+                self.event("output", category="stdout", output=self.debugger.decode(b"".join(map(stream, group))))
             for line in group:
-                try:
-                    self.take_line(line)
-                except Refused as refusal:
-                    self.say(str(refusal))
-                except MALFORMED as error:
-                    text = line.decode("utf-8", "replace")
-                    self.say("a line of the debugger isn't understood: %.200s (%.200r)" % (text, error))
+                self.attempt(self.take_line, line)
 
     def take_line(self, line):
         """A record, or a text of the debugger; the first prompt says that it has accepted the program."""

@@ -5,7 +5,7 @@ import functools
 import re
 
 from rvdbg_dap.breakpoints import Breakpoints
-from rvdbg_dap.mi import Refused, need
+from rvdbg_dap.mi import Refused, c_string, need
 from rvdbg_dap.values import Values
 
 REASONS = {"breakpoint-hit": "breakpoint", "watchpoint-trigger": "data breakpoint", "signal-received": "exception"}
@@ -17,7 +17,6 @@ OUTER = "the frame that is shown is an outer one, of which this isn't known: sho
 
 
 class Threads(Breakpoints, Values):
-
     def stopped(self, thread, fields):
         """A thread has stopped. One that a log point or a condition stopped for the adapter alone goes on."""
         thread.is_running, thread.trap, self.last = False, None, thread
@@ -65,14 +64,22 @@ class Threads(Breakpoints, Values):
         try:
             value = self.value_at(point, thread, point.condition)
             if not point.is_looked_at:
-                point.is_looked_at = True
-                with contextlib.suppress(Refused):
-                    self.hand_over(point, self.in_core(thread, point.condition))
+                self.hand_over(point, thread)
             need(value[0] != "<", "it has %s", value)
             return int(value) != 0
         except Refused as refusal:
             self.say("Error in testing condition for breakpoint %s: %s" % (point.number, refusal))
             return True
+
+    def hand_over(self, point, thread):
+        """Has the debugger judge a condition, where it can. The adapter still judges for threads that stand there."""
+        point.is_looked_at = True
+        with contextlib.suppress(Refused):
+            condition = self.in_core(thread, point.condition)
+            self.ask("-break-condition %s %s" % (point.number, c_string(condition)))
+            point.is_judged, point.state = False, (point.state[0], condition)
+            stand = {int(it["id"]) for it in self.ask("-thread-info")["threads"] if it["state"] == "stopped"}
+            point.early = {it for it in stand & {*self.threads} if self.threads[it].is_running}
 
     def log(self, point, thread):
         said = LOGGED.split(point.log)

@@ -49,7 +49,6 @@ def replaced(text, stands):
 
 
 class Values(Memory):
-
     def on_stack_trace(self, arguments):
         thread, told = self.thread(arguments["threadId"]), []
         rows = self.ask("-stack-list-frames --thread %d" % thread.identity)["stack"]
@@ -72,9 +71,7 @@ class Values(Memory):
         return self.thread(number // LEVELS), number % LEVELS
 
     def listed(self, thread):
-        """The variables of a thread's innermost frame with what is shown of each: of one name the innermost."""
-        rows = self.ask("-stack-list-variables --thread %d 1" % thread.identity)["variables"]
-        return {it["name"]: it["value"] for it in reversed(rows)}
+        return self.ask("-stack-list-variables --thread %d 1" % thread.identity)["variables"]
 
     def on_scopes(self, arguments):
         number = arguments["frameId"]
@@ -89,8 +86,7 @@ class Values(Memory):
         if kind == REGISTERS:
             return {"variables": [self.register(at, word, number) for at, word in self.registers(thread)]}
         if kind in (LOCALS, ARGUMENTS):
-            line = "-stack-list-variables --thread %d 1" % thread.identity
-            listed = [] if level else self.ask(line)["variables"]
+            listed = [] if level else self.listed(thread)
             rows = [(it["name"], it["value"]) for it in listed if ("arg" in it) == (kind == ARGUMENTS)]
         else:
             ((_, word),) = self.registers(thread, kind - RADIXES)
@@ -155,15 +151,16 @@ class Values(Memory):
             name = unknown and asked.isascii() and dict(bare_names(asked)).get(int(unknown[1]))
             need(name, "%s", result.fields["msg"])
             listed = self.listed(thread)
-            if name == text.strip() and name in listed:
-                return listed[name], []
+            for it in listed:
+                if it["name"] == name == text.strip():
+                    return it["value"], []
             stands[name] = self.at_symbol(name, listed)
 
     def at_symbol(self, name, listed):
         """What reads the bytes at a symbol, where none of the variables that a frame has hides it."""
-        program = self.program
-        places = program.symbols.get(name, ())
-        need(name not in (listed or ()), "%s is %s", name, (listed or {}).get(name))
+        program, places = self.program, self.program.symbols.get(name, ())
+        for it in listed or ():
+            need(it["name"] != name, "%s is %s", name, it["value"])
         need(places, "there is no variable and no symbol `%s` here", name)
         need(listed is None or not program.has_unread, UNREAD, name, name)
         need(len(places) == 1, "there are several symbols `%s`", name)
