@@ -5,8 +5,7 @@ import functools
 import itertools
 import re
 
-from rvdbg_dap.engine import Engine
-from rvdbg_dap.memory import place
+from rvdbg_dap.engine import Engine, place
 from rvdbg_dap.mi import Refused, c_string, need
 from rvdbg_dap.values import bare_names, replaced
 
@@ -104,7 +103,6 @@ class Breakpoints(Engine):
             it.told["message"] = "arrivals are counted whether the condition holds or not"
 
     def insert_points(self):
-        """Sets all of the editor's in a debugger that has none."""
         self.dropped = set()
         for it in [it for it in self.points if it.group == CONSOLE]:
             self.remove_point(it)

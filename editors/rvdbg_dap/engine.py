@@ -1,14 +1,22 @@
-"""What the parts of a session have in common: the debugger, its threads, the program, and the editor."""
+"""What the parts of a session have in common: the debugger, its threads and memory, the program, and the editor."""
 
+import base64
+import re
 import time
 
+from rvdbg_dap.instructions import Instruction
 from rvdbg_dap.mi import Refused, need
 from rvdbg_dap.program import Sources
 from rvdbg_dap.protocol import Client
 
+READ_PIECE, WRITE_PIECE, WORD = 4096, 1024, 1 << 32
 # The events that only some editors take, and by which word these say so.
 ASKED = {"memory": "supportsMemoryEvent", "invalidated": "supportsInvalidatedEvent"}
 ASKED.update(dict.fromkeys(("progressStart", "progressUpdate", "progressEnd"), "supportsProgressReporting"))
+
+
+def place(arguments, reference="memoryReference"):
+    return (int(arguments[reference], 0) + int(arguments.get("offset") or 0)) % WORD
 
 
 class Thread:
@@ -20,10 +28,9 @@ class Thread:
 
 
 class Engine:
-    """The debugger in the middle. Each part of a session builds on it; its `on_..` are the requests that it serves.
+    """The debugger in the middle. The parts of a session build on it; their `on_..` are the requests that they serve.
 
-    `last` is the thread that stopped last, `awaited` has those of which the first to stop is to be looked at, `hears`
-    is what the editor says of itself, and `request` what is being done for it.
+    `last` is the thread that stopped last, `awaited` has those of which the first to stop is to be looked at.
     """
 
     def __init__(self, inbox):
@@ -51,7 +58,6 @@ class Engine:
         return self.threads[identity]
 
     def standing(self):
-        """The threads that the editor has seen stop, or that stand from the start."""
         return [it for it in self.threads.values() if not it.is_running]
 
     def event(self, event, **body):
@@ -62,3 +68,57 @@ class Engine:
 
     def say(self, text, category="console", **place):
         self.client.send(dict(type="event", event="output", body=dict(category=category, output=text + "\n", **place)))
+
+    def on_read_memory(self, arguments):
+        begins, count = place(arguments), max(0, int(arguments["count"]))
+        found = self.bytes_at(begins, count)
+        told = {"address": "0x%08x" % begins, "data": base64.b64encode(found).decode()}
+        return told if len(found) == count else dict(told, unreadableBytes=count - len(found))
+
+    def bytes_at(self, begins, count):
+        """So many bytes, or those before the first that can't be read."""
+        found, ends = b"", count
+        while len(found) < ends:
+            at, most = (begins + len(found)) % WORD, min(READ_PIECE, ends - len(found))
+            try:
+                row = self.ask("-data-read-memory-bytes 0x%08x %d" % (at, most))["memory"][0]
+                found += bytes.fromhex(row["contents"])
+            except Refused as refusal:
+                if not (bad := re.search(r"Cannot access memory at address (0x[0-9a-f]+)", str(refusal))):
+                    raise
+                ends = len(found) + (int(bad[1], 16) - at) % WORD
+        return found
+
+    def on_write_memory(self, arguments):
+        begins, content = place(arguments), base64.b64decode(arguments["data"], validate=True)
+        for at in range(0, len(content), WRITE_PIECE):
+            piece = content[at : at + WRITE_PIECE].hex()
+            self.ask("-data-write-memory-bytes 0x%08x %s" % ((begins + at) % WORD, piece))
+        self.event("invalidated", areas=["variables"])
+        return {"bytesWritten": len(content)}
+
+    def written(self, address, count):
+        self.event("memory", memoryReference="0x%08x" % address, offset=0, count=count)
+        self.event("invalidated", areas=["variables"])
+
+    def on_disassemble(self, arguments):
+        count, first = int(arguments["instructionCount"]), int(arguments.get("instructionOffset") or 0)
+        need(0 <= count <= 1 << 16, "at most 65,536 instructions are taken apart at once, not %d", count)
+        begins = (place(arguments) & ~3) + 4 * first
+        return {"instructions": [self.disassembled((begins + 4 * it) % WORD) for it in range(count)]}
+
+    def instruction_at(self, address):
+        content = self.bytes_at(address, 4)
+        is_whole = len(content) == 4 and self.program.is_text(address)
+        return Instruction(int.from_bytes(content, "little"), address) if is_whole else None
+
+    def disassembled(self, address):
+        told, found, near = {"address": "0x%08x" % address}, self.instruction_at(address), self.program.near(address)
+        if found is None:
+            return dict(told, instruction="no instruction", presentationHint="invalid")
+        told.update({"symbol": near} if near else {}, instructionBytes=found.word.to_bytes(4, "little").hex())
+        text, row = found.text() or ".word 0x%08x" % found.word, self.program.row(address)
+        goes = re.search(r",0x([0-9a-f]{8})$", text)
+        there = goes and self.program.near(int(goes[1], 16))
+        told["instruction"] = "%s <%s>" % (text, there) if there else text
+        return dict(told, location=self.sources.source(row.path, address), line=row.line) if row else told

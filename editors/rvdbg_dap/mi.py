@@ -38,7 +38,6 @@ def c_string(text):
 
 
 def bytes_of(text):
-    """The bytes that a C string without its quotes stands for."""
     return ESCAPE.sub(lambda it: bytes((int(it[1], 8) & 255,)) if it[1].isdigit() else ESCAPED.get(it[1], it[1]), text)
 
 

@@ -51,7 +51,6 @@ class Unit:
         self.files, self.at = [os.path.normpath(os.path.join(*it)) for it in self.named()], begins
 
     def take(self, form):
-        """What stands next in a form of `struct`."""
         found = struct.unpack_from("<" + form, self.content, self.at)
         self.at += struct.calcsize("<" + form)
         return found
@@ -152,7 +151,6 @@ class Program:
         return any(address in it for it in self.texts)
 
     def near(self, address):
-        """A place by its function, as `main+8`, or nothing."""
         at = bisect.bisect(self.functions, (address, "\U0010ffff")) - 1
         begins, name, size = self.functions[at] if at >= 0 else (0, "", 1)
         return "%s+%d" % (name, address - begins) if name and (size == 0 or address - begins < size) else ""

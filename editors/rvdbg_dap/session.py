@@ -36,7 +36,6 @@ class Session(Threads):
         self.is_configured = self.is_done = False
 
     def run(self):
-        """Does what comes, in its order, until the editor goes."""
         while not self.is_done:
             origin, kind, *rest = self.inbox.get()
             if kind == "gone":
@@ -135,7 +134,6 @@ class Session(Threads):
         self.is_done = True
 
     def close(self, why):
-        """Ends the debugger, and forgets what was of it."""
         if self.debugger:
             self.debugger.stop(self.is_open, LOG_PATIENCE if self.launch.log else 1.0)
         for identity in self.threads:
@@ -162,8 +160,7 @@ class Session(Threads):
         for line in lines:
             self.said = line.decode("utf-8", "replace")
             self.say(self.said)
-            built = BUILT.match(self.said)
-            if built and self.opening:
+            if self.opening and (built := BUILT.match(self.said)):
                 if self.progress is None:
                     self.progress = "build-%d" % self.opening["seq"]
                     self.event("progressStart", progressId=self.progress, title="Building rvdbg", cancellable=False)

@@ -100,7 +100,6 @@ class Threads(Breakpoints, Values):
         self.event("stopped", reason=reason, threadId=thread.identity, **told)
 
     def begin(self):
-        """Lets the harts run, or tells that they stand at the entry."""
         self.awaited = set(self.threads)
         if self.launch.stops:
             for thread in self.threads.values():

@@ -2,7 +2,8 @@
 
 import re
 
-from rvdbg_dap.memory import NAMES, Memory
+from rvdbg_dap.engine import WORD, Engine
+from rvdbg_dap.instructions import NAMES
 from rvdbg_dap.mi import Refused, c_string, need
 
 # A frame's number is made of its thread and its level, a reference to variables of what they are and of the frame.
@@ -13,9 +14,12 @@ OUTER_SCOPES = [("Registers (of the innermost frame)", "registers", REGISTERS)]
 RADIX = {"decimal": "{1:d}", "unsigned": "{0:d}", "octal": "0{0:o}", "binary": "0b{0:032b}"}
 SIZES = {1: "unsigned char", 2: "unsigned short", 4: "int"}
 WIDTHS = {"int": 4, "unsigned int": 4, "short": 2, "unsigned short": 2, "char": 1, "unsigned char": 1}
-NUMBER, WORD = re.compile(r"-?(0x[0-9A-Fa-f]+|0b[01]+|[1-9]\d*|0)"), 1 << 32
+NUMBER = re.compile(r"-?(0x[0-9A-Fa-f]+|0b[01]+|[1-9]\d*|0)")
 NAME = re.compile(r"[A-Za-z_.][\w.$]*", re.ASCII)
-TOKEN = re.compile(r"\{[^{}]*\}|\$?[A-Za-z_.][\w.$]*|\d\w*|&&|\S", re.ASCII)
+# Behind an operand `&` is an operation, elsewhere it makes a symbol of the name behind it.
+TOKEN = re.compile(
+    r"\{[^{}]*\}|&&|&\s*\$?[A-Za-z_.][\w.$]*|(?:(\$?[A-Za-z_.][\w.$]*)|\d\w*|\))(?:\s*&(?!&))?|\S", re.ASCII
+)
 PLACE = re.compile(r"\{\s*((?:unsigned )?(?:int|short|char))\s*\}\s*(&\s*[\w.]+|\$?\w+|\([^()]*\))")
 REGISTER_NAMES = [{"s0": "fp"}.get(it, it) for it in [*NAMES, "pc"]]
 REGISTER_NUMBERS = {name: at for at in range(32) for name in ("x%d" % at, NAMES[at], REGISTER_NAMES[at])}
@@ -28,13 +32,7 @@ UNWATCHED = "1, 2 or 4 bytes of data can be watched, as many as there are, at an
 
 def names(text):
     """The places of a text's bare names and registers, and they. What stands behind `&` or in braces is neither."""
-    is_wanted, is_symbol = True, False
-    for it in TOKEN.finditer(text):
-        is_name = it[0][0] == "$" or NAME.match(it[0]) is not None
-        if is_name and not is_symbol:
-            yield it.start(), it[0]
-        is_symbol = it[0] == "&" and is_wanted
-        is_wanted = it[0][0] == "{" or not (is_name or it[0][0].isdigit() or it[0] == ")")
+    return [(it.start(1), it[1]) for it in TOKEN.finditer(text) if it[1]]
 
 
 def bare_names(text):
@@ -48,7 +46,7 @@ def replaced(text, stands):
     return text
 
 
-class Values(Memory):
+class Values(Engine):
     def on_stack_trace(self, arguments):
         thread, told = self.thread(arguments["threadId"]), []
         rows = self.ask("-stack-list-frames --thread %d" % thread.identity)["stack"]
@@ -110,7 +108,6 @@ class Values(Memory):
         return self.set_register(number, arguments["name"], arguments["value"])
 
     def set_register(self, number, name, value):
-        """Sets a register of a frame's thread, by any of its names."""
         need(NAME.fullmatch(name), "%.50s is no register", name)
         thread, _ = self.framed(number)
         word = self.number(value, number) % WORD
@@ -207,7 +204,7 @@ class Values(Memory):
             kind, address = self.place(name, frame)
             text = name if name[0] == "{" else "{%s} &%s" % (kind, name)
             is_data = size in (None, WIDTHS[kind]) and not self.program.is_text(address)
-            need(is_data and not [*names(text)], UNWATCHED)
+            need(is_data and not names(text), UNWATCHED)
         except Refused as refusal:
             return {"dataId": None, "description": str(refusal)}
         told = {"dataId": text, "description": "%d bytes: %s" % (WIDTHS[kind], text)}

@@ -182,7 +182,7 @@ def check_mnemonics(rig, name):
     if tool is None:
         print("outside: not run: %s: objdump isn't installed" % name, flush=True)
         return
-    from rvdbg_dap.memory import Instruction
+    from rvdbg_dap.instructions import Instruction
 
     words = list(random_words(random.Random(1), 4000))
     rig.put("words", struct.pack("<%dI" % len(words), *words))

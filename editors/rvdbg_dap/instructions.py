@@ -1,12 +1,5 @@
-"""Memory and text: what is read, written and taken apart ("Instructions" in `docs/FILES.md`), and why a hart traps."""
+"""The instructions of this machine as text, without aliases, after "Instructions" in `docs/FILES.md`."""
 
-import base64
-import re
-
-from rvdbg_dap.engine import Engine
-from rvdbg_dap.mi import Refused, need
-
-READ_PIECE, WRITE_PIECE, WORD = 4096, 1024, 1 << 32
 NAMES = "zero ra sp gp tp t0 t1 t2 s0 s1 a0 a1 a2 a3 a4 a5 a6 a7 s2 s3 s4 s5 s6 s7 s8 s9 s10 s11 t3 t4 t5 t6".split()
 LOAD, FENCE, NUMBER, AUIPC, STORE, AMO = 0x03, 0x0F, 0x13, 0x17, 0x23, 0x2F
 PAIR, LUI, BRANCH, JALR, JAL, SYSTEM = 0x33, 0x37, 0x63, 0x67, 0x6F, 0x73
@@ -50,7 +43,7 @@ class Instruction:
         number, stored = sign << 11 | word >> 20 & 0x7FF, sign << 11 | word >> 20 & 0x7E0 | word >> 7 & 0x1F
         self.fields = {it: NAMES[word >> at & 31] for it, at in (("rd", 7), ("rs1", 15), ("rs2", 20))}
         self.fields.update(number=number, stored=stored, upper=word >> 12, shift=word >> 20 & 31)
-        self.fields.update(branch=(pc + branch) % WORD, jump=(pc + jump) % WORD, pc=pc)
+        self.fields.update(branch=(pc + branch) % (1 << 32), jump=(pc + jump) % (1 << 32), pc=pc)
 
     def text(self):
         for key in (self.opcode, (self.opcode, self.high), (self.word,)):
@@ -65,7 +58,7 @@ class Instruction:
         if self.text() is None:
             return "at 0x%08x is %s" % (self.fields["pc"], self.foreign())
         does, offset = ACCESSES.get(self.opcode, ("", None))
-        there = "0x%08x" % ((registers[self.word >> 15 & 31] + self.fields.get(offset, 0)) % WORD)
+        there = "0x%08x" % ((registers[self.word >> 15 & 31] + self.fields.get(offset, 0)) % (1 << 32))
         return " ".join(["`%s` at 0x%08x" % (self.text(), self.fields["pc"]), *([does, there] if does else [])])
 
     def foreign(self):
@@ -79,68 +72,3 @@ class Instruction:
         elif self.opcode != SYSTEM:
             return "no instruction of this machine"
         return "`%s`, which isn't an instruction of this machine: %s" % (name, helps)
-
-
-def place(arguments, reference="memoryReference"):
-    return (int(arguments[reference], 0) + int(arguments.get("offset") or 0)) % WORD
-
-
-class Memory(Engine):
-    """The part of a session that looks at memory."""
-
-    def on_read_memory(self, arguments):
-        begins, count = place(arguments), max(0, int(arguments["count"]))
-        found = self.bytes_at(begins, count)
-        told = {"address": "0x%08x" % begins, "data": base64.b64encode(found).decode()}
-        return told if len(found) == count else dict(told, unreadableBytes=count - len(found))
-
-    def bytes_at(self, begins, count):
-        """So many bytes, or those before the first that can't be read."""
-        found, ends = b"", count
-        while len(found) < ends:
-            at, most = (begins + len(found)) % WORD, min(READ_PIECE, ends - len(found))
-            try:
-                row = self.ask("-data-read-memory-bytes 0x%08x %d" % (at, most))["memory"][0]
-                found += bytes.fromhex(row["contents"])
-            except Refused as refusal:
-                bad = re.search(r"Cannot access memory at address (0x[0-9a-f]+)", str(refusal))
-                if not bad:
-                    raise
-                ends = len(found) + (int(bad[1], 16) - at) % WORD
-        return found
-
-    def on_write_memory(self, arguments):
-        begins, content = place(arguments), base64.b64decode(arguments["data"], validate=True)
-        for at in range(0, len(content), WRITE_PIECE):
-            piece = content[at : at + WRITE_PIECE].hex()
-            self.ask("-data-write-memory-bytes 0x%08x %s" % ((begins + at) % WORD, piece))
-        self.event("invalidated", areas=["variables"])
-        return {"bytesWritten": len(content)}
-
-    def written(self, address, count):
-        """Tells that memory was written, of which views are made."""
-        self.event("memory", memoryReference="0x%08x" % address, offset=0, count=count)
-        self.event("invalidated", areas=["variables"])
-
-    def on_disassemble(self, arguments):
-        count, first = int(arguments["instructionCount"]), int(arguments.get("instructionOffset") or 0)
-        need(0 <= count <= 1 << 16, "at most 65,536 instructions are taken apart at once, not %d", count)
-        begins = (place(arguments) & ~3) + 4 * first
-        return {"instructions": [self.disassembled((begins + 4 * it) % WORD) for it in range(count)]}
-
-    def instruction_at(self, address):
-        """The instruction at an address, or None where there is no text."""
-        content = self.bytes_at(address, 4)
-        is_whole = len(content) == 4 and self.program.is_text(address)
-        return Instruction(int.from_bytes(content, "little"), address) if is_whole else None
-
-    def disassembled(self, address):
-        told, found, near = {"address": "0x%08x" % address}, self.instruction_at(address), self.program.near(address)
-        if found is None:
-            return dict(told, instruction="no instruction", presentationHint="invalid")
-        told.update({"symbol": near} if near else {}, instructionBytes=found.word.to_bytes(4, "little").hex())
-        text, row = found.text() or ".word 0x%08x" % found.word, self.program.row(address)
-        goes = re.search(r",0x([0-9a-f]{8})$", text)
-        there = goes and self.program.near(int(goes[1], 16))
-        told["instruction"] = "%s <%s>" % (text, there) if there else text
-        return dict(told, location=self.sources.source(row.path, address), line=row.line) if row else told
