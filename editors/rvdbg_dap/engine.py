@@ -72,21 +72,21 @@ class Engine:
     def on_read_memory(self, arguments):
         begins, count = place(arguments), max(0, int(arguments["count"]))
         found = self.bytes_at(begins, count)
-        told = {"address": "0x%08x" % begins, "data": base64.b64encode(found).decode()}
-        return told if len(found) == count else dict(told, unreadableBytes=count - len(found))
+        data = base64.b64encode(found).decode()
+        return {"address": "0x%08x" % begins, "data": data, "unreadableBytes": count - len(found)}
 
     def bytes_at(self, begins, count):
         """So many bytes, or those before the first that can't be read."""
-        found, ends = b"", count
-        while len(found) < ends:
-            at, most = (begins + len(found)) % WORD, min(READ_PIECE, ends - len(found))
-            try:
-                row = self.ask("-data-read-memory-bytes 0x%08x %d" % (at, most))["memory"][0]
-                found += bytes.fromhex(row["contents"])
-            except Refused as refusal:
-                if not (bad := re.search(r"Cannot access memory at address (0x[0-9a-f]+)", str(refusal))):
-                    raise
-                ends = len(found) + (int(bad[1], 16) - at) % WORD
+        found = b""
+        while len(found) < count:
+            at, most = (begins + len(found)) % WORD, min(READ_PIECE, count - len(found))
+            result, _ = self.reply("-data-read-memory-bytes 0x%08x %d" % (at, most))
+            if result.name == "done":
+                found += bytes.fromhex(result.fields["memory"][0]["contents"])
+            else:
+                bad = re.search(r"Cannot access memory at address (0x[0-9a-f]+)", result.fields["msg"])
+                need(bad, "%s", result.fields["msg"])
+                count = len(found) + (int(bad[1], 16) - at) % WORD
         return found
 
     def on_write_memory(self, arguments):

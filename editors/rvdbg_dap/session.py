@@ -14,7 +14,6 @@ from rvdbg_dap.program import Program, Sources
 from rvdbg_dap.threads import Threads
 
 PATIENCE, LOG_PATIENCE = 10.0, 20.0
-LATER = object()
 MALFORMED = (LookupError, TypeError, ValueError, AttributeError, ArithmeticError)
 CAPABILITIES = (
     "ConfigurationDoneRequest FunctionBreakpoints ConditionalBreakpoints HitConditionalBreakpoints LogPoints "
@@ -64,7 +63,7 @@ class Session(Threads):
             need(not fault, fault)
             need(hasattr(self, name), "the request %.100s isn't served", command)
             body = getattr(self, name)(dict(message.get("arguments") or {}))
-            if body is not LATER:
+            if self.opening is not message:
                 self.client.answer(message, body)
         except Refused as refusal:
             self.client.answer(message, error=str(refusal))
@@ -82,7 +81,7 @@ class Session(Threads):
 
     def on_launch(self, arguments):
         need(not self.debugger, "a session is open already")
-        return self.start(Launch(arguments))
+        self.start(Launch(arguments))
 
     def start(self, launch):
         """Starts the debugger of a launch, which is answered once that has accepted the program."""
@@ -98,14 +97,13 @@ class Session(Threads):
                 self.event("terminated")
             raise Refused("%s: %s" % (error.filename, error.strerror)) from error
         self.launch, self.opening = launch, self.request
-        return LATER
 
     def on_restart(self, arguments):
         """A new session with the same breakpoints. One that can't begin leaves the old one as it is."""
         launch = Launch(arguments.get("arguments") or self.launch.arguments)
         self.close("the session begins anew")
         self.is_configured = True
-        return self.start(launch)
+        self.start(launch)
 
     def opened(self):
         is_first, self.is_open = self.opening["command"] == "launch", True
@@ -181,26 +179,25 @@ class Session(Threads):
             return self.say(stream(line).decode("utf-8", "replace").rstrip("\n"))
         if line.rstrip() == b"(gdb)":
             return self.opened() if self.opening else None
-        told = record(line)
-        fields = told.fields
-        if told.kind == "^" and told.name == "error" and self.opening:
+        _, name, fields, _ = record(line)
+        if name == "error" and self.opening:
             self.said = fields["msg"]
-        elif told.name == "thread-created":
+        elif name == "thread-created":
             self.threads[int(fields["id"])] = Thread(int(fields["id"]))
             self.event("thread", reason="started", threadId=int(fields["id"]))
-        elif told.name == "thread-exited" and self.threads.pop(int(fields["id"]), None):
+        elif name == "thread-exited" and self.threads.pop(int(fields["id"]), None):
             self.event("thread", reason="exited", threadId=int(fields["id"]))
-        elif told.name == "stopped" and fields.get("reason", "").startswith("exited"):
+        elif name == "stopped" and fields.get("reason", "").startswith("exited"):
             self.event("exited", exitCode=int(fields.get("exit-code", "0"), 8))
             self.debugger.process.stdin.close()
-        elif told.name == "stopped":
+        elif name == "stopped":
             self.stopped(self.threads[int(fields["thread-id"])], fields)
 
     def take_ended(self):
         """The debugger has ended: with the program, with its budget, or because it refused something."""
         is_launch, status = self.opening and self.opening["command"] == "launch", self.debugger.status()
-        why = ENDS.get(status, "the debugger ended with status %s" % status)
-        why = self.said if self.said and not self.is_open else why
+        why = "" if self.is_open else self.said
+        why = why or ENDS.get(status, "the debugger ended with status %s" % status)
         if status != 0:
             self.say(why, "stderr")
         self.close(why)

@@ -148,11 +148,9 @@ class Threads(Breakpoints, Values):
         number = arguments.get("threadId")
         threads = [self.thread(number)] if number else [*self.threads.values()]
         self.awaited = {it.identity for it in threads}
-        try:
-            self.ask("-exec-interrupt " + ("--thread %d" % number if number else "--all"))
-        except Refused:
-            if not threads[0].is_running:
-                raise
+        result, _ = self.reply("-exec-interrupt " + ("--thread %d" % number if number else "--all"))
+        if result.name == "error":
+            need(threads[0].is_running, "%s", result.fields["msg"])
             threads[0].is_wanted = True
 
     def on_evaluate(self, arguments):
