@@ -104,30 +104,29 @@ class Breakpoints(Engine):
 
     def insert_points(self):
         self.dropped = set()
-        for it in [it for it in self.points if it.group == CONSOLE]:
-            self.remove_point(it)
+        self.remove_points([it for it in self.points if it.group == CONSOLE])
         for it in self.points:
             self.insert_point(it)
             self.event("breakpoint", reason="changed", breakpoint=it.told)
 
-    def remove_point(self, it):
-        self.points.remove(it)
-        self.event("breakpoint", reason="removed", breakpoint=it.told)
+    def remove_points(self, gone):
+        for it in gone:
+            self.points.remove(it)
+            self.event("breakpoint", reason="removed", breakpoint=it.told)
 
     def spend_point(self, it):
         """One that was for one stop has made it."""
         self.delete_point(it)
         it.number, it.is_spent, it.told["message"] = None, True, "it has made its one stop"
         if it.group == CONSOLE:
-            self.remove_point(it)
+            self.remove_points([it])
         else:
             self.event("breakpoint", reason="changed", breakpoint=it.told)
 
     def agree(self):
         """Behind a line of the console: what came, went or changed in the debugger is told to the editor."""
         rows = {it["number"]: it for it in self.ask("-break-list")["BreakpointTable"]["body"]}
-        for it in [it for it in self.points if it.number not in (None, *rows)]:
-            self.remove_point(it)
+        self.remove_points([it for it in self.points if it.number not in (None, *rows)])
         for number, row in rows.items():
             it, state = self.point(number), (row["enabled"], row.get("cond"))
             if it is None:
