@@ -29,19 +29,28 @@ ENDS = {3: "the budget of instructions is used up; the launch argument `budget` 
 class Session(Threads):
     """What an editor and a debugger have in common. `on_..` are the editor's requests, `take_..` what else comes."""
 
-    def __init__(self, inbox):
-        super().__init__(inbox)
-        self.inbox, self.opening, self.progress, self.said = inbox, None, None, ""
+    def __init__(self):
+        self.inbox, self.opening, self.progress, self.said = queue.Queue(), None, None, ""
         self.is_configured = self.is_done = False
+        super().__init__(self.inbox)
 
     def run(self):
-        while not self.is_done:
-            origin, kind, *rest = self.inbox.get()
-            if kind == "gone":
-                raise BrokenPipeError
-            self.deadline = time.monotonic() + PATIENCE
-            if origin in (self.client, self.debugger):
-                self.attempt(getattr(self, "take_" + kind), *rest)
+        """Does what comes, in its order, until the editor goes, and gives the status to exit with."""
+        signal.signal(signal.SIGTERM, lambda *_: sys.exit(1))
+        try:
+            while not self.is_done:
+                origin, kind, *rest = self.inbox.get()
+                self.deadline = time.monotonic() + PATIENCE
+                if kind == "gone":
+                    break
+                if origin in (self.client, self.debugger):
+                    self.attempt(getattr(self, "take_" + kind), *rest)
+        except (BrokenPipeError, KeyboardInterrupt):
+            pass
+        finally:
+            if self.debugger:
+                self.debugger.stop(self.is_open)
+        return int(not self.is_done)
 
     def attempt(self, do, *words):
         """Does something with what has come, or says why not."""
@@ -203,16 +212,3 @@ class Session(Threads):
         self.close(why)
         if not is_launch:
             self.event("terminated")
-
-
-def main():
-    signal.signal(signal.SIGTERM, lambda *_: sys.exit(1))
-    session = Session(queue.Queue())
-    try:
-        session.run()
-    except (BrokenPipeError, KeyboardInterrupt):
-        return 1
-    finally:
-        if session.debugger:
-            session.debugger.stop(session.is_open)
-    return 0
