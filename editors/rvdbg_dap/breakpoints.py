@@ -2,7 +2,6 @@
 
 import contextlib
 import functools
-import itertools
 import re
 
 from rvdbg_dap.engine import Engine, place
@@ -50,10 +49,6 @@ class Breakpoint:
 
 class Breakpoints(Engine):
     """All of them. The editor replaces a group as a whole: a file's, functions', instructions' and watches."""
-
-    def __init__(self, inbox):
-        super().__init__(inbox)
-        self.points, self.identities, self.dropped = [], itertools.count(1), set()
 
     def point(self, number):
         return next((it for it in self.points if number is not None and it.number == number), None)
