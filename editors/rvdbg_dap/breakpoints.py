@@ -1,8 +1,8 @@
 """Breakpoints and watches: those that the editor wants and those of the console, and their numbers in the debugger."""
 
 import contextlib
-import functools
 import re
+from functools import partialmethod
 
 from rvdbg_dap.engine import Engine, place
 from rvdbg_dap.mi import Refused, c_string, need
@@ -146,8 +146,6 @@ class Breakpoints(Engine):
     def on_set_exception_breakpoints(self, _):
         """Every trap stops its thread; there is nothing to choose."""
 
-    on_set_function_breakpoints = functools.partialmethod(replace_points, "function", lambda it: it["name"])
-    on_set_instruction_breakpoints = functools.partialmethod(
-        replace_points, "instruction", lambda it: "*0x%08x" % place(it, "instructionReference")
-    )
-    on_set_data_breakpoints = functools.partialmethod(replace_points, "data", lambda it: it["dataId"])
+    on_set_function_breakpoints = partialmethod(replace_points, "function", lambda it: it["name"])
+    on_set_instruction_breakpoints = partialmethod(replace_points, "instruction", lambda it: "*0x%08x" % place(it))
+    on_set_data_breakpoints = partialmethod(replace_points, "data", lambda it: it["dataId"])

@@ -93,8 +93,9 @@ class Client:
         self.send(message if body is None else dict(message, body=body))
 
 
-def place(arguments, reference="memoryReference"):
-    return (int(arguments[reference], 0) + int(arguments.get("offset") or 0)) % WORD
+def place(arguments):
+    reference = arguments.get("memoryReference") or arguments["instructionReference"]
+    return (int(reference, 0) + int(arguments.get("offset") or 0)) % WORD
 
 
 class Thread:
@@ -106,10 +107,7 @@ class Thread:
 
 
 class Engine:
-    """The debugger in the middle. The parts of a session build on it; their `on_..` are the requests that they serve.
-
-    `last` is the thread that stopped last, `awaited` has those of which the first to stop is to be looked at.
-    """
+    """The debugger in the middle, on which the parts of a session build: their `on_..` are the requests that they serve."""
 
     def __init__(self, inbox):
         self.client, self.sources, self.hears, self.threads, self.after = Client(inbox), Sources(), {}, {}, []
@@ -171,8 +169,8 @@ class Engine:
     def on_write_memory(self, arguments):
         begins, content = place(arguments), base64.b64decode(arguments["data"], validate=True)
         for at in range(0, len(content), WRITE_PIECE):
-            piece = content[at : at + WRITE_PIECE].hex()
-            self.ask("-data-write-memory-bytes 0x%08x %s" % ((begins + at) % WORD, piece))
+            words = (begins + at) % WORD, content[at : at + WRITE_PIECE].hex()
+            self.ask("-data-write-memory-bytes 0x%08x %s" % words)
         self.event("invalidated", areas=["variables"])
         return {"bytesWritten": len(content)}
 

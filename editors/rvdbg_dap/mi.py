@@ -28,7 +28,6 @@ class Refused(Exception):
 
 
 def need(is_so, text, *words):
-    """Refuses something where what it stands on isn't so."""
     if not is_so:
         raise Refused(text % words)
 
@@ -142,7 +141,6 @@ class Debugger:
             self.waiting = None
 
     def status(self, seconds=2.0):
-        """What the process ended with, or None where it doesn't end."""
         with contextlib.suppress(subprocess.TimeoutExpired):
             return self.process.wait(seconds)
 

@@ -25,7 +25,6 @@ def text_at(content, at):
 
 
 def units(content):
-    """The units of a section, each behind its length."""
     at = 0
     while at + 4 <= len(content):
         begins, at = at + 4, at + 4 + int.from_bytes(content[at : at + 4], "little")

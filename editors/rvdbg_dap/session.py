@@ -20,7 +20,6 @@ CLONE = os.path.dirname(os.path.dirname(os.path.dirname(os.path.realpath(__file_
 NUMBERS = {"harts": (1, 16, 1), "workers": (0, 16, 0), "budget": (1, 10**12, 10**12)}
 NUMBERS.update(slots=(0, 512, 16), slice=(0, 1024, 256))
 KNOWN = {*NUMBERS, "program", "stopOnEntry", "sourcePath", "rvdbg", "log", "singleThread"}
-# The requests that move one thread alone.
 ALONE = {"never": (), "step": ("step",), "always": ("step", "continue")}
 # What editors put beside them for themselves.
 EDITORS = set("name type request cwd env noDebug presentation preLaunchTask postDebugTask debugServer".split())
@@ -220,7 +219,6 @@ class Session(Threads):
         self.answer_opening(error=why)
 
     def answer_opening(self, **answer):
-        """Answers the request that begins a session, where that isn't done yet."""
         if self.progress:
             self.event("progressEnd", progressId=self.progress)
         request, self.opening, self.progress = self.opening, None, None
@@ -270,10 +268,9 @@ class Session(Threads):
     def take_ended(self):
         """The debugger has ended: with the program, with its budget, or because it refused something."""
         is_launch, status = self.opening and self.opening["command"] == "launch", self.debugger.status()
-        why = "" if self.is_open else self.said
-        why = why or ENDS.get(status, "the debugger ended with status %s" % status)
-        if status != 0:
+        why = ENDS.get(status, "the debugger ended with status %s" % status)
+        if self.is_open and status != 0:
             self.say(why, "stderr")
-        self.close(why)
+        self.close((not self.is_open and self.said) or why)
         if not is_launch:
             self.event("terminated")

@@ -115,7 +115,6 @@ class Threads(Breakpoints, Values):
         return {"exceptionId": name, "description": meaning, "breakMode": "always"}
 
     def go_on(self, threads):
-        """Lets threads go on, each by itself, and gives the numbers of those that do."""
         answers = [self.reply("-exec-continue --thread %d" % it.identity) for it in threads]
         return [it for _, running in answers for it in running]
 

@@ -17,9 +17,7 @@ WIDTHS = {"int": 4, "unsigned int": 4, "short": 2, "unsigned short": 2, "char": 
 NUMBER = re.compile(r"-?(0x[0-9A-Fa-f]+|0b[01]+|[1-9]\d*|0)")
 NAME = re.compile(r"[A-Za-z_.][\w.$]*", re.ASCII)
 # Behind an operand `&` is an operation, elsewhere it makes a symbol of the name behind it.
-TOKEN = re.compile(
-    r"\{[^{}]*\}|&&|&\s*\$?[A-Za-z_.][\w.$]*|(?:(\$?[A-Za-z_.][\w.$]*)|\d\w*|\))(?:\s*&(?!&))?|\S", re.ASCII
-)
+TOKEN = r"\{[^{}]*\}|&&|&\s*\$?NAME|(?:(\$?NAME)|\d\w*|\))(?:\s*&(?!&))?|\S".replace("NAME", NAME.pattern)
 PLACE = re.compile(r"\{\s*((?:unsigned )?(?:int|short|char))\s*\}\s*(&\s*[\w.]+|\$?\w+|\([^()]*\))")
 REGISTER_NAMES = [{"s0": "fp"}.get(it, it) for it in [*NAMES, "pc"]]
 REGISTER_NUMBERS = {name: at for at in range(32) for name in ("x%d" % at, NAMES[at], REGISTER_NAMES[at])}
@@ -32,7 +30,7 @@ UNWATCHED = "1, 2 or 4 bytes of data can be watched, as many as there are, at an
 
 def names(text):
     """The places of a text's bare names and registers, and they. What stands behind `&` or in braces is neither."""
-    return [(it.start(1), it[1]) for it in TOKEN.finditer(text) if it[1]]
+    return [(it.start(1), it[1]) for it in re.finditer(TOKEN, text, re.ASCII) if it[1]]
 
 
 def bare_names(text):
@@ -116,7 +114,6 @@ class Values(Engine):
         return {it: told[it] for it in ("value", "variablesReference", "memoryReference")}
 
     def number(self, text, frame):
-        """The number that a person typed: in any radix, or as an expression."""
         return int(text, 0) if NUMBER.fullmatch(text.strip()) else int(self.evaluated(text, frame)[0])
 
     def evaluate(self, text, frame):
