@@ -36,9 +36,8 @@ class Breakpoint:
             need(is_plain, "a watch is of writes, and has neither a condition nor a count")
             return "-break-watch " + c_string(place)
         more = "-d " if self.is_judged else "-t " if self.is_once else ""
-        if self.condition:
-            zeros = {name: "0" * len(name) for _, name in bare_names(self.condition)}
-            more += "-c %s " % c_string(replaced(self.condition, zeros))
+        zeros = {name: "0" * len(name) for _, name in bare_names(self.condition)}
+        more += "-c %s " % c_string(replaced(self.condition, zeros)) if self.condition else ""
         if self.hits:
             found = HITS.fullmatch(self.hits)
             count = int(found[2]) - (found[1] != ">") if found else -1

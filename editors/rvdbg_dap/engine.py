@@ -13,7 +13,6 @@ from rvdbg_dap.instructions import Instruction
 from rvdbg_dap.mi import Refused, need
 from rvdbg_dap.program import Sources
 
-# A message is a header with a length and then a JSON object.
 HEADER = re.compile(rb"Content-Length:[ \t]*(\d+)\r?\n(?:[A-Za-z-]+:[^\r\n]*\r?\n)*\r?\n", re.IGNORECASE)
 IDLE = re.compile(rb"(?:\s|[A-Za-z-]+:[^\r\n]*\r?\n)*")
 LONGEST, LONGEST_HEADERS = 1 << 24, 1 << 16
@@ -66,14 +65,11 @@ class Client:
         threading.Thread(target=self.read, daemon=True).start()
 
     def read(self):
-        """Reads to the end. An editor that asks faster than it is answered is made to wait."""
         framing, piece = Framing(), b" "
         while piece:
             piece = os.read(self.reads, 65536)
             for item in framing.add(piece):
                 self.inbox.put((self, *item))
-            while self.inbox.qsize() > 256:
-                time.sleep(0.01)
         self.inbox.put((self, "gone"))
 
     def send(self, message):
@@ -107,7 +103,7 @@ class Thread:
 
 
 class Engine:
-    """The debugger in the middle, on which the parts of a session build: their `on_..` are the requests that they serve."""
+    """The debugger in the middle. The parts of a session build on it; their `on_..` are the requests they serve."""
 
     def __init__(self, inbox):
         self.client, self.sources, self.hears, self.threads, self.after = Client(inbox), Sources(), {}, {}, []
@@ -167,10 +163,9 @@ class Engine:
         return found
 
     def on_write_memory(self, arguments):
-        begins, content = place(arguments), base64.b64decode(arguments["data"], validate=True)
+        start, content = place(arguments), base64.b64decode(arguments["data"], validate=True)
         for at in range(0, len(content), WRITE_PIECE):
-            words = (begins + at) % WORD, content[at : at + WRITE_PIECE].hex()
-            self.ask("-data-write-memory-bytes 0x%08x %s" % words)
+            self.ask("-data-write-memory-bytes 0x%08x %s" % ((start + at) % WORD, content[at : at + WRITE_PIECE].hex()))
         self.event("invalidated", areas=["variables"])
         return {"bytesWritten": len(content)}
 

@@ -51,7 +51,6 @@ class Instruction:
             name = [*names.split(), *8 * ["-"]][self.form]
             if name != "-":
                 return ("%s %s" % (name, operands.format_map(self.fields))).strip()
-        return None
 
     def trap(self, registers):
         """What it does, where the registers hold this, that it has trapped."""

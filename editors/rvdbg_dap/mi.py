@@ -18,7 +18,6 @@ TOKEN = re.compile(rb'"((?:[^"\\]|\\.)*)"|([A-Za-z0-9_-]+)=|(.)')
 ESCAPE = re.compile(rb"\\([0-7]{1,3}|.)")
 ESCAPED = {b"n": b"\n", b"r": b"\r", b"t": b"\t"}
 ODD = re.compile(rb"[^ !#-\[\]-~]")
-
 # A result (`^`), or what happened by itself (`*`, `=`), its class, and its fields as dicts, lists and texts.
 Record = collections.namedtuple("Record", "kind name fields text")
 

@@ -15,7 +15,6 @@ SYMTAB, TEXT_FLAGS, FUNCTION, LARGEST = 2, 6, 2, 1 << 25
 STRING, BLOCK, UDATA, TEXTS = 0x08, 0x09, 0x0F, {0x1F: ".debug_line_str", 0x0E: ".debug_str"}
 DATA = {0x0B: "B", 0x05: "H", 0x06: "I", 0x07: "Q", 0x1E: "16s"}
 UNREADABLE = (struct.error, ValueError, LookupError, StopIteration, ZeroDivisionError)
-
 # A row: the address, the file with its folders, the line, and whether a statement begins there.
 Row = collections.namedtuple("Row", "address path line is_stmt")
 
@@ -169,7 +168,6 @@ class Program:
                 behind = bisect.bisect(rows, (address + 1,))
                 there = rows[bisect.bisect(rows, (rows[behind - 1].address,)) : behind]
                 return ([it for it in there if it.is_stmt] or there)[-1]
-        return None
 
     def address(self, files, line):
         """The least address of the least line from this one on with a statement in one of these files, or None."""

@@ -24,7 +24,6 @@ ALONE = {"never": (), "step": ("step",), "always": ("step", "continue")}
 # What editors put beside them for themselves.
 EDITORS = set("name type request cwd env noDebug presentation preLaunchTask postDebugTask debugServer".split())
 EDITORS |= {"internalConsoleOptions", "serverReadyAction", "suppressMultipleSessionWarning"}
-
 PATIENCE, LOG_PATIENCE = 10.0, 20.0
 MALFORMED = (LookupError, TypeError, ValueError, AttributeError, ArithmeticError)
 CAPABILITIES = (
@@ -34,7 +33,6 @@ CAPABILITIES = (
     "WriteMemoryRequest DisassembleRequest SteppingGranularity SingleThreadExecutionRequests"
 )
 BUILT = re.compile(r"rvdbg: (?:proving and building|\S+, (\d+) of (\d+))")
-# Of an end by itself `rvdbg` says why; what the budget is here the adapter knows better.
 ENDS = {3: "the budget of instructions is used up; the launch argument `budget` sets it"}
 
 
@@ -60,19 +58,16 @@ class Launch:
             need(is_fine, "%s is a number from %d to %d, not %.50s", name, least, greatest, number)
             self.words.append("--%s=%s" % (name, number))
         self.words += ["--log"] * bool(log) + ["--", self.program]
-        alone, folders = arguments.get("singleThread", "never"), arguments.get("sourcePath") or []
+        alone = arguments.get("singleThread", "never")
         need(alone in ALONE, "singleThread is one of %s, not %.50s", ", ".join(ALONE), alone)
         self.alone, self.stops = ALONE[alone], bool(arguments.get("stopOnEntry"))
-        folders = [folders] if isinstance(folders, str) else folders
-        self.folders = [full(it) for it in folders or [os.path.dirname(self.program), os.getcwd()]]
-        self.unknown = []
-        for it in arguments:
-            if it not in KNOWN | EDITORS and not it.startswith(("__", "dap-")):
-                like = [": is `%s` meant?" % near for near in difflib.get_close_matches(it, KNOWN, 1)]
-                self.unknown.append("there is no launch argument `%s`%s" % (it, "".join(like)))
+        folders = arguments.get("sourcePath") or [os.path.dirname(self.program), os.getcwd()]
+        self.folders = [full(it) for it in ([folders] if isinstance(folders, str) else folders)]
+        others = [it for it in arguments if it not in KNOWN | EDITORS and not it.startswith(("__", "dap-"))]
+        like = {it: ": is `%s` meant?" % near for it in others for near in difflib.get_close_matches(it, KNOWN, 1)}
+        self.unknown = ["there is no launch argument `%s`%s" % (it, like.get(it, "")) for it in others]
 
     def verdict(self):
-        """Has the log of a session that is over checked and drawn, and gives what is to be said of it."""
         picture = os.path.splitext(self.log)[0] + ".svg"
         try:
             said = self.fed(self.rvdbg, "--check", self.program).decode("utf-8", "replace").strip()

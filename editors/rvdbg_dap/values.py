@@ -38,7 +38,6 @@ def bare_names(text):
 
 
 def replaced(text, stands):
-    """The text with what stands for its bare names, as far as something does."""
     for at, name in reversed(bare_names(text)):
         text = text[:at] + stands.get(name, name) + text[at + len(name) :]
     return text
@@ -54,8 +53,7 @@ class Values(Engine):
             frame = {"id": thread.identity * LEVELS + level, "name": row.get("func", row["addr"])}
             frame.update(line=0, column=0, instructionPointerReference=row["addr"])
             if "file" in row:
-                # (the place of an outer frame is behind its call)
-                source = self.sources.source(row["file"], address - (level > 0))
+                source = self.sources.source(row["file"], address - (level > 0))  # (an outer one is behind its call)
                 frame.update(source=source, line=int(row["line"]), column=1)
             told.append(frame)
         return {"stackFrames": told, "totalFrames": len(rows)}
@@ -70,8 +68,7 @@ class Values(Engine):
         return self.ask("-stack-list-variables --thread %d 1" % thread.identity)["variables"]
 
     def on_scopes(self, arguments):
-        number = arguments["frameId"]
-        _, level = self.framed(number)
+        number, (_, level) = arguments["frameId"], self.framed(arguments["frameId"])
         keys = ("name", "presentationHint", "variablesReference", "expensive")
         rows = [(*it, kind * KINDS + number, False) for *it, kind in (OUTER_SCOPES if level else SCOPES)]
         return {"scopes": [dict(zip(keys, it)) for it in rows]}
