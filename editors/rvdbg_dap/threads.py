@@ -91,7 +91,7 @@ class Threads(Breakpoints, Values):
         self.say("".join(said), **{key: point.told[key] for key in ("source", "line") if key in point.told})
 
     def tell_stop(self, thread, reason, **told):
-        """The editor is to show a thread as stopped. One that wasn't waited for doesn't take the view."""
+        """The editor is to show a thread as stopped. The first of those that are `awaited` takes the view."""
         thread.is_stepping = thread.is_wanted = False
         if thread.identity in self.awaited or len(self.standing()) == 1:
             self.awaited = set()
