@@ -1,1 +1,1 @@
-"""The debug adapter: `protocol` is the editor's side, `mi` the debugger's, and `session` ties the two."""
+"""The debug adapter: `mi` is the debugger's side, `engine` the editor's, and `session` has both."""

@@ -1,13 +1,12 @@
 """Breakpoints and watches: those that the editor wants and those of the console, and their numbers in the debugger."""
 
 import contextlib
-import itertools
 import re
+from functools import partialmethod
 
-from rvdbg_dap.engine import Part
-from rvdbg_dap.memory import place
+from rvdbg_dap.engine import Engine, place
 from rvdbg_dap.mi import Refused, c_string, need
-from rvdbg_dap.values import unknown_name, zeros
+from rvdbg_dap.values import bare_names, replaced
 
 # N and >= N mean from the N-th arrival on, > N behind it, == N only at it.
 HITS = re.compile(r"\s*(>=|>|==|)\s*(\d{1,9})\s*")
@@ -19,143 +18,118 @@ class Breakpoint:
 
     def __init__(self, identity, group, place, wanted):
         self.identity, self.group, self.place, self.source = identity, group, place, wanted.get("source")
-        self.condition, self.hits = wanted.get("condition") or None, wanted.get("hitCondition") or None
-        self.log, self.is_write = wanted.get("logMessage") or None, wanted.get("accessType", "write") == "write"
-        self.is_once = bool(self.hits) and "==" in self.hits
-        self.words = self.place, self.condition, self.hits, self.log, self.is_write
+        keys = ("condition", "hitCondition", "logMessage", "accessType")
+        self.condition, self.hits, self.log, self.access = [wanted.get(it) or "" for it in keys]
+        self.words, self.is_once = (place, self.condition, self.hits, self.log, self.access), "==" in self.hits
         self.clear("no program is loaded")
 
     def clear(self, why):
         """It isn't in the debugger. `is_judged` says that the adapter judges, and `early` for which threads alone."""
         self.number, self.state, self.early, self.said = None, ("y", None), set(), set()
-        self.is_spent = self.is_judged = self.is_looked_at = False
+        self.is_spent, self.is_looked_at, self.is_judged = False, False, bool(bare_names(self.condition))
         self.told = {"id": self.identity, "verified": False, "message": why}
 
-    def command(self, place, condition, more=""):
-        """The line that sets it, with this condition."""
+    def command(self, place):
+        """The line that sets it. What is wrong with a condition beside its names is found by zeros in their places."""
         if self.group == "data":
-            is_plain = self.is_write and not self.condition and not self.hits
+            is_plain = self.access in ("", "write") and not self.condition and not self.hits
             need(is_plain, "a watch is of writes, and has neither a condition nor a count")
             return "-break-watch " + c_string(place)
+        more = "-d " if self.is_judged else "-t " if self.is_once else ""
+        zeros = {name: "0" * len(name) for _, name in bare_names(self.condition)}
+        more += "-c %s " % c_string(replaced(self.condition, zeros)) if self.condition else ""
         if self.hits:
             found = HITS.fullmatch(self.hits)
             count = int(found[2]) - (found[1] != ">") if found else -1
             need(count >= 0, "a hit condition is N, >= N, > N or == N, not %s", self.hits)
             more += "-i %d " % count
-        more += "-t " if self.is_once and not self.is_judged else ""
-        more += "-c %s " % c_string(condition) if condition else ""
         return "-break-insert " + more + c_string(place)
 
 
-class Breakpoints(Part):
+class Breakpoints(Engine):
     """All of them. The editor replaces a group as a whole: a file's, functions', instructions' and watches."""
 
-    def __init__(self, engine):
-        super().__init__(engine)
-        self.all, self.identities, self.dropped = [], itertools.count(1), set()
+    def point(self, number):
+        return next((it for it in self.points if number is not None and it.number == number), None)
 
-    def numbered(self, number):
-        """The one that has this number in the debugger, or None."""
-        return next((it for it in self.all if number is not None and it.number == number), None)
-
-    def replace(self, group, wanted):
-        """Makes these a group, each a place and what the editor says. Those that are there keep their counts."""
-        now = []
-        for new in [Breakpoint(next(self.identities), group, *it) for it in wanted]:
-            like = [it for it in self.all if it.group in (group, CONSOLE) and it.words == new.words and it not in now]
+    def replace_points(self, group, place_of, arguments):
+        """Makes what the editor wants a group. Those that are there keep their counts."""
+        rows, now = [dict(it, source=arguments.get("source")) for it in arguments.get("breakpoints") or []], []
+        for new in [Breakpoint(next(self.identities), group, place_of(it), it) for it in rows]:
+            known = [it for it in self.points if it.group in (group, CONSOLE) and it not in now]
+            like = [it for it in known if it.words == new.words]
             now.append(min(like, key=lambda it: it.group == CONSOLE, default=new))
             now[-1].group, now[-1].source = group, new.source
-        gone = [it for it in self.all if it.group == group and it not in now]
-        self.all = [it for it in self.all if it.group != group] + now
-        for it in gone:
-            self.delete(it)
+        for it in [it for it in self.points if it.group == group and it not in now]:
+            self.delete_point(it)
+        self.points = [it for it in self.points if it.group != group] + now
         for it in now:
-            if self.engine.is_open and it.number is None and not it.is_spent:
-                self.insert(it)
+            if self.is_open and it.number is None and not it.is_spent:
+                self.insert_point(it)
         return {"breakpoints": [it.told for it in now]}
 
-    def delete(self, it):
+    def delete_point(self, it):
         """Takes one out of the debugger, if it's there. One that goes on by itself may have stopped a thread."""
-        if self.engine.is_open and it.number is not None:
+        if self.is_open and it.number is not None:
             self.dropped.update([it.number] if it.log or it.is_judged else [])
             with contextlib.suppress(Refused):
                 self.ask("-break-delete " + it.number)
 
-    def insert(self, it):
-        """Sets one in the debugger, or says at it why not. A condition over names is left to the adapter."""
+    def insert_point(self, it):
         try:
-            place = self.engine.sources.location(it.place) if it.source else it.place
-            try:
-                made = self.ask(it.command(place, it.condition))
-            except Refused as refusal:
-                unknown_name(it.condition or "", refusal)
-                it.is_judged = True
-                made = self.ask(it.command(place, zeros(it.condition), "-d "))
-                for line in ("-break-condition ", "-break-enable "):
-                    self.ask(line + made["bkpt"]["number"])
-                made["bkpt"].update(enabled="y", cond=None)
-            self.take(it, made.get("wpt") or made["bkpt"])
+            made = self.ask(it.command(self.sources.location(it.place) if it.source else it.place))
+            row = made.get("wpt") or made["bkpt"]
+            for line in ("-break-condition ", "-break-enable ") if it.is_judged else ():
+                self.ask(line + row["number"])
+            self.set_point(it, row if not it.is_judged else dict(row, enabled="y", cond=None))
         except Refused as refusal:
             it.clear(str(refusal))
 
-    def take(self, it, row):
-        """Takes over what the debugger says of one that is set."""
+    def set_point(self, it, row):
         it.number, it.state = row["number"], (row.get("enabled", "y"), row.get("cond"))
         it.told = {"id": it.identity, "verified": True}
         if "file" in row:
-            source = it.source or self.engine.sources.source(row["file"], int(row["addr"], 16))
+            source = it.source or self.sources.source(row["file"], int(row["addr"], 16))
             it.told.update(line=int(row["line"]), source=source)
         if "addr" in row:
             it.told["instructionReference"] = row["addr"]
         if it.condition and it.hits:
             it.told["message"] = "arrivals are counted whether the condition holds or not"
 
-    def insert_all(self):
-        """Sets all of the editor's in a debugger that has none."""
+    def insert_points(self):
         self.dropped = set()
-        for it in [it for it in self.all if it.group == CONSOLE]:
-            self.remove(it)
-        for it in self.all:
-            self.insert(it)
+        self.remove_points([it for it in self.points if it.group == CONSOLE])
+        for it in self.points:
+            self.insert_point(it)
             self.event("breakpoint", reason="changed", breakpoint=it.told)
 
-    def remove(self, it):
-        """One is no more."""
-        self.all.remove(it)
-        self.event("breakpoint", reason="removed", breakpoint=it.told)
+    def remove_points(self, gone):
+        for it in gone:
+            self.points.remove(it)
+            self.event("breakpoint", reason="removed", breakpoint=it.told)
 
-    def spend(self, it):
+    def spend_point(self, it):
         """One that was for one stop has made it."""
-        if it.is_once:
-            self.delete(it)
+        self.delete_point(it)
         it.number, it.is_spent, it.told["message"] = None, True, "it has made its one stop"
         if it.group == CONSOLE:
-            self.remove(it)
+            self.remove_points([it])
         else:
             self.event("breakpoint", reason="changed", breakpoint=it.told)
-
-    def hand_over(self, it, condition):
-        """Has the debugger judge a condition, where it can."""
-        with contextlib.suppress(Refused):
-            self.ask("-break-condition %s %s" % (it.number, c_string(condition)))
-            it.is_judged, it.state, rows = False, (it.state[0], condition), self.ask("-thread-info")["threads"]
-            stand = {int(row["id"]) for row in rows if row["state"] == "stopped"}
-            it.early = {key for key in stand & {*self.engine.threads} if self.engine.threads[key].is_running}
 
     def agree(self):
         """Behind a line of the console: what came, went or changed in the debugger is told to the editor."""
         rows = {it["number"]: it for it in self.ask("-break-list")["BreakpointTable"]["body"]}
-        for it in [it for it in self.all if it.number not in (None, *rows)]:
-            self.remove(it)
+        self.remove_points([it for it in self.points if it.number not in (None, *rows)])
         for number, row in rows.items():
-            it, state = self.numbered(number), (row["enabled"], row.get("cond"))
+            it, state = self.point(number), (row["enabled"], row.get("cond"))
             if it is None:
                 it = Breakpoint(next(self.identities), CONSOLE, row.get("original-location") or row["what"], {})
-                self.all.append(it)
+                self.points.append(it)
             elif it.state == state:
                 continue
             reason, it.is_judged = "changed" if it.number else "new", it.is_judged and state[1] is None
-            self.take(it, row)
+            self.set_point(it, row)
             if "path" in it.told.get("source", {}) and it.group == CONSOLE:
                 it.words = ("%s:%d" % (it.told["source"]["path"], it.told["line"]), *it.words[1:])
             if state != ("y", None):
@@ -164,21 +138,13 @@ class Breakpoints(Part):
             self.event("breakpoint", reason=reason, breakpoint=it.told)
 
     def on_set_breakpoints(self, arguments):
-        source, rows = arguments["source"], arguments.get("breakpoints")
-        path = source.get("path") or source["name"]
-        rows = [{"line": it} for it in arguments.get("lines") or []] if rows is None else rows
-        self.engine.sources.tell(path)
-        return self.replace("source " + path, [("%s:%d" % (path, it["line"]), dict(it, source=source)) for it in rows])
-
-    def on_set_function_breakpoints(self, arguments):
-        return self.replace("function", [(it["name"], it) for it in arguments["breakpoints"]])
-
-    def on_set_instruction_breakpoints(self, arguments):
-        rows = arguments["breakpoints"]
-        return self.replace("instruction", [("*0x%08x" % place(it, "instructionReference"), it) for it in rows])
-
-    def on_set_data_breakpoints(self, arguments):
-        return self.replace("data", [(it["dataId"], it) for it in arguments["breakpoints"]])
+        path = arguments["source"].get("path") or arguments["source"]["name"]
+        self.sources.tell(path)
+        return self.replace_points("source " + path, lambda it: "%s:%d" % (path, it["line"]), arguments)
 
     def on_set_exception_breakpoints(self, _):
         """Every trap stops its thread; there is nothing to choose."""
+
+    on_set_function_breakpoints = partialmethod(replace_points, "function", lambda it: it["name"])
+    on_set_instruction_breakpoints = partialmethod(replace_points, "instruction", lambda it: "*0x%08x" % place(it))
+    on_set_data_breakpoints = partialmethod(replace_points, "data", lambda it: it["dataId"])

@@ -1,4 +1,4 @@
-"""The instructions of this machine as text, without aliases, after "Instructions" in `docs/FORMATS.md`."""
+"""The instructions of this machine as text, without aliases, after "Instructions" in `docs/FILES.md`."""
 
 NAMES = "zero ra sp gp tp t0 t1 t2 s0 s1 a0 a1 a2 a3 a4 a5 a6 a7 s2 s3 s4 s5 s6 s7 s8 s9 s10 s11 t3 t4 t5 t6".split()
 LOAD, FENCE, NUMBER, AUIPC, STORE, AMO = 0x03, 0x0F, 0x13, 0x17, 0x23, 0x2F
@@ -24,9 +24,10 @@ FORMS = {
     (0x100073,): ("ebreak", ""),
 }
 AMOS = {0: "add", 1: "swap", 4: "xor", 8: "or", 12: "and", 16: "min", 20: "max", 24: "minu", 28: "maxu"}
-for it in range(128):
-    if it >> 2 in AMOS:
-        FORMS[AMO, it] = ("- - amo%s.w%s" % (AMOS[it >> 2], ("", ".rl", ".aq", ".aqrl")[it & 3]), "{rd},{rs2},({rs1})")
+for code, amo in AMOS.items():
+    for bits, order in enumerate(("", ".rl", ".aq", ".aqrl")):
+        FORMS[AMO, code << 2 | bits] = ("- - amo%s.w%s" % (amo, order), "{rd},{rs2},({rs1})")
+ACCESSES = {LOAD: ("loads from", "number"), STORE: ("stores to", "stored"), AMO: ("changes", None)}
 FLOATS = (0x07, 0x27, 0x43, 0x47, 0x4B, 0x4F, 0x53)
 CSRS = "system csrrw csrrs csrrc system csrrwi csrrsi csrrci".split()
 
@@ -42,31 +43,31 @@ class Instruction:
         number, stored = sign << 11 | word >> 20 & 0x7FF, sign << 11 | word >> 20 & 0x7E0 | word >> 7 & 0x1F
         self.fields = {it: NAMES[word >> at & 31] for it, at in (("rd", 7), ("rs1", 15), ("rs2", 20))}
         self.fields.update(number=number, stored=stored, upper=word >> 12, shift=word >> 20 & 31)
-        self.fields.update(branch=(pc + branch) % (1 << 32), jump=(pc + jump) % (1 << 32))
+        self.fields.update(branch=(pc + branch) % (1 << 32), jump=(pc + jump) % (1 << 32), pc=pc)
 
     def text(self):
-        """The instruction, or None where the word is none."""
         for key in (self.opcode, (self.opcode, self.high), (self.word,)):
             names, operands = FORMS.get(key, ("", ""))
             name = [*names.split(), *8 * ["-"]][self.form]
             if name != "-":
                 return ("%s %s" % (name, operands.format_map(self.fields))).strip()
-        return None
+
+    def trap(self, registers):
+        """What it does, where the registers hold this, that it has trapped."""
+        if self.text() is None:
+            return "at 0x%08x is %s" % (self.fields["pc"], self.foreign())
+        does, offset = ACCESSES.get(self.opcode, ("", None))
+        there = "0x%08x" % ((registers[self.word >> 15 & 31] + self.fields.get(offset, 0)) % (1 << 32))
+        return " ".join(["`%s` at 0x%08x" % (self.text(), self.fields["pc"]), *([does, there] if does else [])])
 
     def foreign(self):
-        """What a word is that is no instruction of this machine, and what helps."""
         if self.word & 3 != 3:
             return "a compressed instruction or none at all: leave `c` out of -march"
-        if self.opcode == AMO and self.form == 2 and self.high >> 2 in (2, 3):
-            return "`%s.w`, which isn't an instruction of this machine: use an AMO" % ("lr", "sc")[self.high >> 2 & 1]
-        if self.opcode == SYSTEM:
-            text = "`%s`, which isn't an instruction of this machine: there are no CSRs and no other modes"
-            return text % CSRS[self.form]
         if self.opcode in FLOATS:
             return "floating point, which this machine hasn't: -march=rv32ima -mabi=ilp32"
-        return "no instruction of this machine"
-
-    def access(self):
-        """What it does to memory, and at which distance from the register rs1; None where it does nothing there."""
-        found = {LOAD: ("loads from", "number"), STORE: ("stores to", "stored"), AMO: ("changes", "")}.get(self.opcode)
-        return found and (found[0], self.fields.get(found[1], 0))
+        name, helps = CSRS[self.form], "there are no CSRs and no other modes"
+        if self.opcode == AMO and self.form == 2 and self.high >> 2 in (2, 3):
+            name, helps = ("lr.w", "sc.w")[self.high >> 2 & 1], "use an AMO"
+        elif self.opcode != SYSTEM:
+            return "no instruction of this machine"
+        return "`%s`, which isn't an instruction of this machine: %s" % (name, helps)

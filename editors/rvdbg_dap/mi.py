@@ -14,11 +14,10 @@ import types
 
 STREAM = re.compile(rb'[@&~]"((?:[^"\\]|\\.)*)"')
 RECORD = re.compile(rb"\d*([\^*=])([A-Za-z0-9_-]+)(?:,|$)")
-TOKEN = re.compile(rb'"((?:[^"\\]|\\.)*)"|([A-Za-z0-9_-]+)=|([{}\[\],])')
+TOKEN = re.compile(rb'"((?:[^"\\]|\\.)*)"|([A-Za-z0-9_-]+)=|(.)')
 ESCAPE = re.compile(rb"\\([0-7]{1,3}|.)")
 ESCAPED = {b"n": b"\n", b"r": b"\r", b"t": b"\t"}
 ODD = re.compile(rb"[^ !#-\[\]-~]")
-
 # A result (`^`), or what happened by itself (`*`, `=`), its class, and its fields as dicts, lists and texts.
 Record = collections.namedtuple("Record", "kind name fields text")
 
@@ -28,18 +27,15 @@ class Refused(Exception):
 
 
 def need(is_so, text, *words):
-    """Refuses something where what it stands on isn't so."""
     if not is_so:
         raise Refused(text % words)
 
 
 def c_string(text):
-    """A text as one word of a line."""
     return '"%s"' % ODD.sub(lambda it: b"\\%03o" % it[0][0], text.encode("utf-8", "surrogateescape")).decode()
 
 
 def bytes_of(text):
-    """The bytes that a C string without its quotes stands for."""
     return ESCAPE.sub(lambda it: bytes((int(it[1], 8) & 255,)) if it[1].isdigit() else ESCAPED.get(it[1], it[1]), text)
 
 
@@ -54,12 +50,9 @@ def record(line):
     head = RECORD.match(line)
     if head is None:
         raise ValueError("it is no record")
-    made, brackets, place = "{", "{", head.end()
-    while place < len(line):
-        token = TOKEN.match(line, place)
-        if token is None:
-            raise ValueError("at byte %d" % place)
-        place, (text, name, mark) = token.end(), token.groups()
+    made, brackets = "{", "{"
+    for token in TOKEN.finditer(line, head.end()):
+        text, name, mark = token.groups()
         if text is not None:
             made += json.dumps(bytes_of(text).decode("utf-8", "surrogateescape"))
         elif name is not None:
@@ -147,7 +140,6 @@ class Debugger:
             self.waiting = None
 
     def status(self, seconds=2.0):
-        """What the process ended with, or None where it doesn't end."""
         with contextlib.suppress(subprocess.TimeoutExpired):
             return self.process.wait(seconds)
 

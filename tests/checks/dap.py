@@ -215,10 +215,10 @@ def check_ends(rig, name):
         rig.row(name + ": budget", (editor.event("terminated"), "budget" in editor.printed("stderr")), ({}, True))
         editor.end(rig, name + " by the budget")
     refused = [
-        (dict(program=os.path.join(rig.folder, "dap-compressed")), "compressed instructions"),
+        (dict(program=os.path.join(rig.folder, "dap-compressed"), rvdbg=None), "compressed instructions"),
         (dict(program=sys.executable), "Not an accepted ELF file"),
         (dict(program="/nowhere"), "there is no file"),
-        (dict(program=SOURCE), "no ELF file"),
+        (dict(program=SOURCE, rvdbg=None), "it is no ELF file"),
         (dict(program="examples/lock/lock", harts=17), "harts is a number from 1 to 16"),
         (dict(program="examples/lock/lock", slots="1.5"), "slots is a number from 0 to 512"),
         (dict(program="examples/lock/lock", rvdbg="/nowhere"), "doesn't start"),

@@ -177,7 +177,7 @@ def check_large_messages(rig, name):
 
 def check_growth(rig, name):
     """The time for a message grows with its size, and not with its square."""
-    from rvdbg_dap.protocol import Framing
+    from rvdbg_dap.engine import Framing
 
     def seconds(size):
         begun, framing = time.process_time(), Framing()

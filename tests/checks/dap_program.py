@@ -228,7 +228,7 @@ def check_line_tables(rig, name):
         told = re.findall(rb'^\^done,bkpt=.*?addr="0x(\w+)"(?:,func="(\w+)")?(?:,file="([^"]+)",line="(\d+)")?', rig.run(["--workers", "0", path], typed.encode())[1], re.M)
         found = []
         for at in places:
-            row = program.lines.at(at)
+            row = program.row(at)
             place = (os.path.basename(row.path), str(row.line)) if row else ("", "")
             found.append(("%08x" % at, program.near(at).split("+")[0], *place))
         rig.row("%s of %s" % (name, os.path.basename(path)), found, [tuple(it.decode() for it in row) for row in told])
