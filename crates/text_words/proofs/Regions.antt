@@ -87,6 +87,13 @@ last_has_not rs addr i b up e some within le =
       ]
     ])
 
+-- a region that has the address is the one
+pub guessed : (rs : List Region) (addr k : ℕ) (d : Region) → AreApart rs → k < length rs → (slice_index_or rs k d).address ≤ addr
+    → (addr - (slice_index_or rs k d).address) / 4 < (slice_index_or rs k d).count → find (has addr) rs ≡ Some (slice_index_or rs k d)
+guessed rs addr k d up within low lt =
+    find_first (has addr) rs k d within (inside addr (slice_index_or rs k d) low (omega (arith, low, lt)))
+    (λ j less. let far = apart_later rs up j k d less within in outside addr (slice_index_or rs j d) (inr (omega (arith, far, low))))
+
 -- ---- what is found
 
 place_by : (b : Bool) (r : Region) (addr : ℕ) (o : Option ℕ) (f : Option Region) → o ≡ option_map (λ s. s.first + (addr - s.address) / 4) f

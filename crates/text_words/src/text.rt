@@ -5,6 +5,7 @@ ghost use Rattle.text_words.specs.Words.{AreStored, IsAmong, IsStoredAt, unpatch
 ghost use Rattle.text_words.specs.Runs.{AreOperations, IsRun};
 
 use crate::fetch::Fetch;
+use crate::guesses::Guesses;
 use crate::layout::{collect, decode_all, entry_of, fetch_in, operations_of, planted_in, shown_in};
 use crate::region::{OpenRegion, Region, place_of, span_around, span_from};
 use crate::run::{EBREAK, stored_word};
@@ -27,6 +28,7 @@ pub struct TextWords {
     stored: Vec<u32>,
     // The operation of each, that of EBREAK where there is no instruction: a hart that runs looks at nothing else.
     operations: Vec<Operation>,
+    guesses: Guesses,
 }
 
 impl Model for TextWords {
@@ -57,12 +59,14 @@ impl TextWords {
         let code = decode_all(alloc, words.as_slice())?;
         let stored = words.as_slice().to_vec(alloc)?;
         let operations = operations_of(alloc, code.as_slice())?;
+        let guesses = Guesses::of(alloc, regions.as_slice())?;
         Ok(TextWords {
             regions,
             words,
             code,
             stored,
             operations,
+            guesses,
         })
     }
 
@@ -82,7 +86,12 @@ impl TextWords {
         ensures found { IsSome (shown self.now addr) → 0 < length result.now }
         ensures ends { shown self.now (addr + 4 * length result.now) ≡ None }
     {
-        let span = span_from(self.regions.as_slice(), addr, self.words.len());
+        let span = span_from(
+            self.regions.as_slice(),
+            self.guesses.guess(addr),
+            addr,
+            self.words.len(),
+        );
         &self.stored.as_slice()[span.first..span.first + span.count]
     }
 
@@ -93,7 +102,12 @@ impl TextWords {
         ensures operations { AreOperations self.now addr result.now }
         ensures ends { shown self.now (addr + 4 * length result.now) ≡ None }
     {
-        let span = span_from(self.regions.as_slice(), addr, self.words.len());
+        let span = span_from(
+            self.regions.as_slice(),
+            self.guesses.guess(addr),
+            addr,
+            self.words.len(),
+        );
         &self.operations.as_slice()[span.first..span.first + span.count]
     }
 
@@ -103,7 +117,12 @@ impl TextWords {
         ensures operations { AreOperations self.now result.address result.operations.now }
         ensures here { IsSome (shown self.now addr) → IsAmong addr result.address (length result.operations.now) }
     {
-        let span = span_around(self.regions.as_slice(), addr, self.words.len());
+        let span = span_around(
+            self.regions.as_slice(),
+            self.guesses.guess(addr),
+            addr,
+            self.words.len(),
+        );
         OpenRegion {
             address: span.address,
             operations: &self.operations.as_slice()[span.first..span.first + span.count],
@@ -144,14 +163,24 @@ impl TextWords {
     pub fn shown(&self, addr: u32) -> Option<u32>
         ensures { result ≡ shown self.now addr }
     {
-        shown_in(self.regions.as_slice(), self.words.as_slice(), addr)
+        shown_in(
+            self.regions.as_slice(),
+            self.words.as_slice(),
+            self.guesses.guess(addr),
+            addr,
+        )
     }
 
     /// Whether a breakpoint is planted at an address.
     pub fn planted(&self, addr: u32) -> bool
         ensures { result ≡ is_planted self.now addr }
     {
-        planted_in(self.regions.as_slice(), self.code.as_slice(), addr)
+        planted_in(
+            self.regions.as_slice(),
+            self.code.as_slice(),
+            self.guesses.guess(addr),
+            addr,
+        )
     }
 
     /// What stands at an address for a hart that executes it. The words were decoded when they were loaded.
@@ -159,7 +188,12 @@ impl TextWords {
     pub fn fetch(&self, addr: u32) -> Fetch
         ensures { result ≡ fetched self.now addr }
     {
-        fetch_in(self.regions.as_slice(), self.code.as_slice(), addr)
+        fetch_in(
+            self.regions.as_slice(),
+            self.code.as_slice(),
+            self.guesses.guess(addr),
+            addr,
+        )
     }
 
     // Puts what stands at a word of text from now on: a breakpoint, or the program's word. There is nothing to lift where no
@@ -169,7 +203,7 @@ impl TextWords {
         ensures { self.new ≡ record self.old { planted = if planted then set.insert self.old.planted addr else set.remove self.old.planted addr } }
     {
         let len = self.words.len();
-        let Some(i) = place_of(self.regions.as_slice(), addr, len) else {
+        let Some(i) = place_of(self.regions.as_slice(), self.guesses.guess(addr), addr, len) else {
             return
         };
         let word = self.words[i];
