@@ -1,8 +1,9 @@
 // Regions of text: words side by side in memory, up to a gap on either side.
-ghost use Rattle.std.specs.Prelude.{◌≡◌, ◌<◌, ◌≤◌, ℕ, ◌+◌, ◌-◌, ◌*◌, ◌/◌, ◌%◌, ◌^◌, IfSome, Some, None, find, length};
-ghost use Rattle.text_words.specs.Layout.{AreApart, IsLayout, IsWholeSpan, has, index};
+ghost use Rattle.std.specs.Prelude.{◌≡◌, ◌<◌, ◌≤◌, ℕ, ◌+◌, ◌-◌, ◌*◌, ◌/◌, ◌%◌, ◌^◌, IfOk, IfSome, Some, None, find, length};
+ghost use Rattle.text_words.specs.Layout.{AreApart, AreSpans, IsLayout, IsSpan, IsWholeSpan, has, index};
 
 use rv_exec::Operation;
+use std::alloc::{AllocError, Global};
 
 /// Where the words of a region are: of one text section, or of several that join.
 #[derive(Clone, Copy)]
@@ -124,6 +125,34 @@ pub fn span_around(regions: &[Region], guess: usize, addr: u32, len: usize) -> S
     match region_at(regions, guess, addr) {
         Some(region) => span_in(regions, region, region.address, len),
         None => span_from(regions, guess, 0, len),
+    }
+}
+
+/// The words of each region.
+pub fn spans_of(alloc: Global, regions: &[Region], len: usize) -> Result<Vec<Span>, AllocError>
+    requires { IsLayout regions.now len }
+    ensures { IfOk result (λ v. AreSpans regions.now len v.items) }
+{
+    let mut spans = Vec::with_capacity(alloc, regions.len())?;
+    for (k, region) in regions.iter().enumerate() {
+        spans.push(span_around(regions, k, region.address, len))?;
+    }
+    Ok(spans)
+}
+
+/// The words of the region of a guess, which may be another than that of an address; none where the guess is of no region.
+#[inline(always)]
+pub fn guessed_span(_regions: &[Region], spans: &[Span], guess: usize, _len: usize) -> Span
+    requires { AreSpans _regions.now _len spans.now }
+    ensures { IsSpan _regions.now _len result }
+{
+    if guess < spans.len() {
+        return spans[guess];
+    }
+    Span {
+        address: 0,
+        first: 0,
+        count: 0,
     }
 }
 

@@ -7,7 +7,9 @@ ghost use Rattle.text_words.specs.Runs.{AreOperations, IsRun};
 use crate::fetch::Fetch;
 use crate::guesses::Guesses;
 use crate::layout::{collect, decode_all, entry_of, fetch_in, operations_of, planted_in, shown_in};
-use crate::region::{OpenRegion, Region, place_of, span_around, span_from};
+use crate::region::{
+    OpenRegion, Region, Span, guessed_span, place_of, span_around, span_from, spans_of,
+};
 use crate::run::{EBREAK, stored_word};
 use dbg_traits::NoMemory;
 use elf32_read::Image;
@@ -28,6 +30,8 @@ pub struct TextWords {
     stored: Vec<u32>,
     // The operation of each, that of EBREAK where there is no instruction: a hart that runs looks at nothing else.
     operations: Vec<Operation>,
+    // The words of each region, by its number, for a hart that comes to one.
+    spans: Vec<Span>,
     guesses: Guesses,
 }
 
@@ -52,13 +56,14 @@ impl TextWords {
     pub fn load(alloc: Global, image: &Image) -> Result<TextWords, NoMemory>
         ensures { IfOk result (λ t. t ≡ unpatched image.now) }
     {
-        let spans = image.text_spans(alloc)?;
+        let sections = image.text_spans(alloc)?;
         let mut regions = Vec::new(alloc);
         let mut words = Vec::new(alloc);
-        collect(image, spans.as_slice(), &mut regions, &mut words)?;
+        collect(image, sections.as_slice(), &mut regions, &mut words)?;
         let code = decode_all(alloc, words.as_slice())?;
         let stored = words.as_slice().to_vec(alloc)?;
         let operations = operations_of(alloc, code.as_slice())?;
+        let spans = spans_of(alloc, regions.as_slice(), words.len())?;
         let guesses = Guesses::of(alloc, regions.as_slice())?;
         Ok(TextWords {
             regions,
@@ -66,6 +71,7 @@ impl TextWords {
             code,
             stored,
             operations,
+            spans,
             guesses,
         })
     }
@@ -113,7 +119,31 @@ impl TextWords {
 
     /// The operations of all words that stand side by side around an address, from gap to gap; an empty region where no word of
     /// text is there.
+    #[inline(always)]
     pub fn region_at(&self, addr: u32) -> OpenRegion<'_>
+        ensures operations { AreOperations self.now result.address result.operations.now }
+        ensures here { IsSome (shown self.now addr) → IsAmong addr result.address (length result.operations.now) }
+    {
+        let span = guessed_span(
+            self.regions.as_slice(),
+            self.spans.as_slice(),
+            self.guesses.guess(addr),
+            self.words.len(),
+        );
+        let region = OpenRegion {
+            address: span.address,
+            operations: &self.operations.as_slice()[span.first..span.first + span.count],
+        };
+        if region.place(addr) < region.operations.len() {
+            return region;
+        }
+        self.find_region(addr)
+    }
+
+    // The same, where the guess is of another region.
+    #[cold]
+    #[inline(never)]
+    fn find_region(&self, addr: u32) -> OpenRegion<'_>
         ensures operations { AreOperations self.now result.address result.operations.now }
         ensures here { IsSome (shown self.now addr) → IsAmong addr result.address (length result.operations.now) }
     {
