@@ -11,6 +11,7 @@ use Rattle.rv_exec.specs.Registers.{Registers, set_pc}
 use Rattle.rv_exec.specs.Step.{Outcome, Done, step}
 use Rattle.text_words.specs.declared.fetch.Fetch.{Fetch}
 use Rattle.text_words.specs.declared.fetch.Fetch.TheVariants.{Absent, Planted, Illegal, Instruction}
+use Rattle.text_words.specs.declared.region.OpenRegion.{OpenRegion}
 use Rattle.text_words.specs.Words.{Words, fetched, fetched_as, is_planted, operation_of, shown}
 use Rattle.text_words.specs.Runs.{AreOperations}
 use Rattle.straight_runs.specs.Runs.{Ends, EndsAt, RanBy, is_done}
@@ -27,6 +28,11 @@ pub record IsHere (t : Words) (address k pc : ℕ) (ops : List Operation) (op : 
   pub at : pc ≡ address + 4 * k
   pub otherwise : Operation
   pub is : op ≡ slice_index_or ops k otherwise
+
+-- the same where the region and the place are known by other names
+pub here_at : (t : Words) (pc : ℕ) (r s : OpenRegion) (k j : ℕ) (d : Operation) → AreOperations t s.address s.operations.now → j < length s.operations.now → pc ≡ s.address + 4 * j → r ≡ s → k ≡ j
+    → IsHere t r.address k pc r.operations.now (slice_index_or r.operations.now k d)
+here_at t pc r s k j d operations low at e f = rw (e, f) (record { operations = operations; low = low; at = at; otherwise = d; is = refl })
 
 stands_here : (t : Words) (address k pc : ℕ) (ops : List Operation) (op : Operation) → IsHere t address k pc ops op → op ≡ operation_of (fetched t pc)
 stands_here t address k pc ops op h = h.is ∙ same_or ops k h.otherwise Break h.low ∙ h.operations.are k h.low ∙ ap (λ a. operation_of (fetched t a)) (sym h.at)

@@ -1,17 +1,17 @@
 -- The region that has an address.
-use Rattle.std.proofs.Common.{◌≡◌, ℕ, suc, zero, ◌+◌, ◌-◌, ◌*◌, ◌/◌, ◌%◌, ◌^◌, ◌<◌, ◌≤◌, inl, inr, List, [], ◌∷◌, length, refl, ap, sym, ◌∙◌, subst, arith, Bool, true, false, cond, Some, None, Option}
+use Rattle.std.proofs.Common.{◌≡◌, ℕ, suc, zero, ◌+◌, ◌-◌, ◌*◌, ◌/◌, ◌%◌, ◌^◌, ◌<◌, ◌≤◌, inl, inr, List, [], ◌∷◌, ◌++◌, length, refl, ap, sym, ◌∙◌, subst, arith, Bool, true, false, cond, Some, None, Option, length-append}
 use Rattle.std.specs.Prelude.{◌⊎◌, IfSome, slice_index_or, find, nat_le, ◌==◌, if◌then◌else◌}
 use Rattle.std.specs.Option.{option_map}
 use Rattle.std.specs.List.Sorted.{IsNonDecreasingBy, IsPartitionPoint}
 use Rattle.std.proofs.lemmas.Bool.{cases_lt}
 use Rattle.std.proofs.lemmas.Bool.Decides.{nat_tests}
-use Rattle.std.proofs.lemmas.List.{get_or_default}
+use Rattle.std.proofs.lemmas.List.{get_or_append_left, get_or-append_right, get_or_default}
 use Rattle.elf32_read.proofs.Found.{found_at, found_passes}
 use Rattle.elf32_read.proofs.Rising.{find_first, find_none}
 use Rattle.text_words.specs.declared.region.Region.{Region}
 use Rattle.text_words.specs.declared.region.Span.{Span}
 use Rattle.text_words.specs.Words.{IsAmong}
-use Rattle.text_words.specs.Layout.{AreApart, IsLayout, IsWholeSpan, has, index, place}
+use Rattle.text_words.specs.Layout.{AreApart, AreSpans, IsLayout, IsSpan, IsWholeSpan, has, index, place}
 use Rattle.text_words.proofs.Places.{laid_at, spanned}
 
 outside : (addr : ℕ) (r : Region) → (addr < r.address) ⊎ (r.address + 4 * r.count ≤ addr) → has addr r ≡ false
@@ -86,6 +86,13 @@ last_has_not rs addr i b up e some within le =
         | inr out ↦ beyond rs addr i d e j out lt
       ]
     ])
+
+-- a region that has the address is the one
+pub guessed : (rs : List Region) (addr k : ℕ) (d : Region) → AreApart rs → k < length rs → (slice_index_or rs k d).address ≤ addr
+    → (addr - (slice_index_or rs k d).address) / 4 < (slice_index_or rs k d).count → find (has addr) rs ≡ Some (slice_index_or rs k d)
+guessed rs addr k d up within low lt =
+    find_first (has addr) rs k d within (inside addr (slice_index_or rs k d) low (omega (arith, low, lt)))
+    (λ j less. let far = apart_later rs up j k d less within in outside addr (slice_index_or rs j d) (inr (omega (arith, far, low))))
 
 -- ---- what is found
 
@@ -213,3 +220,15 @@ whole_span rs len addr a s e within low found reach = record { within = within; 
 
 pub zero_more : (a : ℕ) → a + 0 ≡ a
 zero_more a = omega arith
+
+-- ---- the words of one region more
+
+at_end : (ss : List Span) (s d : Span) → slice_index_or (ss ++ s ∷ []) (length ss) d ≡ s
+at_end ss s d = get_or-append_right ss (s ∷ []) (length ss) (length ss) d refl (omega arith) ∙ (let z : length ss - length ss ≡ 0 = omega arith in ap (λ k. slice_index_or (s ∷ []) k d) z)
+
+pub spans_more : (rs : List Region) (len addr : ℕ) (ss : List Span) (s : Span) → AreSpans rs len ss → IsWholeSpan rs len addr s → AreSpans rs len (ss ++ s ∷ [])
+spans_more rs len addr ss s all one k d lt =
+    elim (cases_lt k (length ss)) [
+      | inl early ↦ rw (get_or_append_left ss (s ∷ []) d k early) (all k d early)
+      | inr late ↦ (let e : k ≡ length ss = omega (arith, lt, late, length-append ss (s ∷ [])) in rw (e, at_end ss s d) (record { within = one.within; low = one.low; found = one.found }))
+    ]

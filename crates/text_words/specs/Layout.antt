@@ -76,6 +76,15 @@ pub record IsWholeSpan (rs : List Region) (len addr : ℕ) (s : Span) : Type 0 w
   pub found : (k : ℕ) → k < s.count → index rs (s.address + 4 * k) ≡ Some (s.first + k)
   pub here : (i : ℕ) → addr < 2 ^ 32 → index rs addr ≡ Some i → IsAmong addr s.address s.count
 
+-- words of text side by side
+pub record IsSpan (rs : List Region) (len : ℕ) (s : Span) : Type 0 where
+  pub within : s.first + s.count ≤ len
+  pub low : (k : ℕ) → k < s.count → s.address + 4 * k < 2 ^ 32
+  pub found : (k : ℕ) → k < s.count → index rs (s.address + 4 * k) ≡ Some (s.first + k)
+
+abbrev pub AreSpans : List Region → ℕ → List Span → Type 0
+AreSpans rs len ss = (k : ℕ) (d : Span) → k < length ss → IsSpan rs len (slice_index_or ss k d)
+
 -- what stands at an address, by the entry at its place
 abbrev pub entry_at : List Region → List Fetch → ℕ → Fetch
 entry_at regions code addr = option_map_or (λ i. slice_index_or code i Absent) (index regions addr) Absent
@@ -108,3 +117,4 @@ pub record IsLaid (t : Inside) : Type 0 where
   pub entries : AreEntries t.words.items t.code.items
   pub kept : AreKept t.words.items t.code.items t.stored.items
   pub operations : t.operations.items ≡ map operation_of t.code.items
+  pub spans : AreSpans t.regions.items (length t.words.items) t.spans.items

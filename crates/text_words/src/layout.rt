@@ -16,11 +16,11 @@ use rv_exec::Operation;
 use std::alloc::{AllocError, Global};
 
 /// The program's word at an address.
-pub fn shown_in(regions: &[Region], words: &[u32], addr: u32) -> Option<u32>
+pub fn shown_in(regions: &[Region], words: &[u32], guess: usize, addr: u32) -> Option<u32>
     requires { IsLayout regions.now (length words.now) }
     ensures { result ≡ word_at regions.now words.now addr }
 {
-    match place_of(regions, addr, words.len()) {
+    match place_of(regions, guess, addr, words.len()) {
         Some(i) => Some(words[i]),
         None => None,
     }
@@ -28,22 +28,22 @@ pub fn shown_in(regions: &[Region], words: &[u32], addr: u32) -> Option<u32>
 
 /// What stands at an address for a hart.
 #[inline(always)]
-pub fn fetch_in(regions: &[Region], code: &[Fetch], addr: u32) -> Fetch
+pub fn fetch_in(regions: &[Region], code: &[Fetch], guess: usize, addr: u32) -> Fetch
     requires { IsLayout regions.now (length code.now) }
     ensures { result ≡ entry_at regions.now code.now addr }
 {
-    match place_of(regions, addr, code.len()) {
+    match place_of(regions, guess, addr, code.len()) {
         Some(i) => code[i],
         None => Fetch::Absent,
     }
 }
 
 /// Whether a breakpoint stands at an address.
-pub fn planted_in(regions: &[Region], code: &[Fetch], addr: u32) -> bool
+pub fn planted_in(regions: &[Region], code: &[Fetch], guess: usize, addr: u32) -> bool
     requires { IsLayout regions.now (length code.now) }
     ensures { result ≡ mark_at regions.now code.now addr }
 {
-    matches!(fetch_in(regions, code, addr), Fetch::Planted)
+    matches!(fetch_in(regions, code, guess, addr), Fetch::Planted)
 }
 
 fn instruction_or_illegal(instruction: Option<Instr>) -> Fetch

@@ -2,6 +2,7 @@
 #![tactic(auto)]
 
 mod fetch;
+mod guesses;
 mod layout;
 mod region;
 mod run;

@@ -1,8 +1,9 @@
 // Regions of text: words side by side in memory, up to a gap on either side.
-ghost use Rattle.std.specs.Prelude.{◌≡◌, ◌<◌, ◌≤◌, ℕ, ◌+◌, ◌-◌, ◌*◌, ◌/◌, ◌%◌, ◌^◌, IfSome, Some, None, find, length};
-ghost use Rattle.text_words.specs.Layout.{AreApart, IsLayout, IsWholeSpan, has, index};
+ghost use Rattle.std.specs.Prelude.{◌≡◌, ◌<◌, ◌≤◌, ℕ, ◌+◌, ◌-◌, ◌*◌, ◌/◌, ◌%◌, ◌^◌, IfOk, IfSome, Some, None, find, length};
+ghost use Rattle.text_words.specs.Layout.{AreApart, AreSpans, IsLayout, IsSpan, IsWholeSpan, has, index};
 
 use rv_exec::Operation;
+use std::alloc::{AllocError, Global};
 
 /// Where the words of a region are: of one text section, or of several that join.
 #[derive(Clone, Copy)]
@@ -15,8 +16,9 @@ pub struct Region {
     pub first: usize,
 }
 
-// The region that has an address.
-fn region_at(regions: &[Region], addr: u32) -> Option<Region>
+// The region that has an address, by their order.
+#[inline(never)]
+fn find_region(regions: &[Region], addr: u32) -> Option<Region>
     requires { AreApart regions.now }
     ensures { result ≡ find (has addr) regions.now }
 {
@@ -29,8 +31,24 @@ fn region_at(regions: &[Region], addr: u32) -> Option<Region>
     if i < region.count { Some(region) } else { None }
 }
 
+// The region that has an address. That of the guess is looked at first.
+#[inline(always)]
+fn region_at(regions: &[Region], guess: usize, addr: u32) -> Option<Region>
+    requires { AreApart regions.now }
+    ensures { result ≡ find (has addr) regions.now }
+{
+    if guess < regions.len() {
+        let region = regions[guess];
+        if region.address <= addr && (((addr - region.address) / 4) as usize) < region.count {
+            return Some(region);
+        }
+    }
+    find_region(regions, addr)
+}
+
 /// The place of the word at an address.
-pub fn place_of(regions: &[Region], addr: u32, len: usize) -> Option<usize>
+#[inline(always)]
+pub fn place_of(regions: &[Region], guess: usize, addr: u32, len: usize) -> Option<usize>
     requires { IsLayout regions.now len }
     ensures value { result ≡ index regions.now addr }
     ensures range { IfSome result (λ i. i < len) }
@@ -38,7 +56,7 @@ pub fn place_of(regions: &[Region], addr: u32, len: usize) -> Option<usize>
     if addr % 4 != 0 {
         return None;
     }
-    match region_at(regions, addr) {
+    match region_at(regions, guess, addr) {
         Some(region) => Some(region.first + ((addr - region.address) / 4) as usize),
         None => None,
     }
@@ -77,7 +95,8 @@ fn span_in(regions: &[Region], region: Region, addr: u32, len: usize) -> Span
 }
 
 /// The words from an address on, up to a gap; none where no word is.
-pub fn span_from(regions: &[Region], addr: u32, len: usize) -> Span
+#[inline(always)]
+pub fn span_from(regions: &[Region], guess: usize, addr: u32, len: usize) -> Span
     requires { IsLayout regions.now len }
     ensures address { result.address ≡ addr }
     ensures within { result.first + result.count ≤ len }
@@ -86,7 +105,7 @@ pub fn span_from(regions: &[Region], addr: u32, len: usize) -> Span
     ensures ends { addr + 4 * result.count < 2 ^ 32 → index regions.now (addr + 4 * result.count) ≡ None }
 {
     if addr % 4 == 0 {
-        if let Some(region) = region_at(regions, addr) {
+        if let Some(region) = region_at(regions, guess, addr) {
             return span_in(regions, region, addr, len);
         }
     }
@@ -98,13 +117,42 @@ pub fn span_from(regions: &[Region], addr: u32, len: usize) -> Span
 }
 
 /// The words of the region that has an address, from its beginning on; none where no word is there.
-pub fn span_around(regions: &[Region], addr: u32, len: usize) -> Span
+#[inline(always)]
+pub fn span_around(regions: &[Region], guess: usize, addr: u32, len: usize) -> Span
     requires { IsLayout regions.now len }
     ensures { IsWholeSpan regions.now len addr result }
 {
-    match region_at(regions, addr) {
+    match region_at(regions, guess, addr) {
         Some(region) => span_in(regions, region, region.address, len),
-        None => span_from(regions, 0, len),
+        None => span_from(regions, guess, 0, len),
+    }
+}
+
+/// The words of each region.
+pub fn spans_of(alloc: Global, regions: &[Region], len: usize) -> Result<Vec<Span>, AllocError>
+    requires { IsLayout regions.now len }
+    ensures { IfOk result (λ v. AreSpans regions.now len v.items) }
+{
+    let mut spans = Vec::with_capacity(alloc, regions.len())?;
+    for (k, region) in regions.iter().enumerate() {
+        spans.push(span_around(regions, k, region.address, len))?;
+    }
+    Ok(spans)
+}
+
+/// The words of the region of a guess, which may be another than that of an address; none where the guess is of no region.
+#[inline(always)]
+pub fn guessed_span(_regions: &[Region], spans: &[Span], guess: usize, _len: usize) -> Span
+    requires { AreSpans _regions.now _len spans.now }
+    ensures { IsSpan _regions.now _len result }
+{
+    if guess < spans.len() {
+        return spans[guess];
+    }
+    Span {
+        address: 0,
+        first: 0,
+        count: 0,
     }
 }
 

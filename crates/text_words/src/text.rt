@@ -5,8 +5,11 @@ ghost use Rattle.text_words.specs.Words.{AreStored, IsAmong, IsStoredAt, unpatch
 ghost use Rattle.text_words.specs.Runs.{AreOperations, IsRun};
 
 use crate::fetch::Fetch;
+use crate::guesses::Guesses;
 use crate::layout::{collect, decode_all, entry_of, fetch_in, operations_of, planted_in, shown_in};
-use crate::region::{OpenRegion, Region, place_of, span_around, span_from};
+use crate::region::{
+    OpenRegion, Region, Span, guessed_span, place_of, span_around, span_from, spans_of,
+};
 use crate::run::{EBREAK, stored_word};
 use dbg_traits::NoMemory;
 use elf32_read::Image;
@@ -27,6 +30,9 @@ pub struct TextWords {
     stored: Vec<u32>,
     // The operation of each, that of EBREAK where there is no instruction: a hart that runs looks at nothing else.
     operations: Vec<Operation>,
+    // The words of each region, by its number, for a hart that comes to one.
+    spans: Vec<Span>,
+    guesses: Guesses,
 }
 
 impl Model for TextWords {
@@ -50,19 +56,23 @@ impl TextWords {
     pub fn load(alloc: Global, image: &Image) -> Result<TextWords, NoMemory>
         ensures { IfOk result (λ t. t ≡ unpatched image.now) }
     {
-        let spans = image.text_spans(alloc)?;
+        let sections = image.text_spans(alloc)?;
         let mut regions = Vec::new(alloc);
         let mut words = Vec::new(alloc);
-        collect(image, spans.as_slice(), &mut regions, &mut words)?;
+        collect(image, sections.as_slice(), &mut regions, &mut words)?;
         let code = decode_all(alloc, words.as_slice())?;
         let stored = words.as_slice().to_vec(alloc)?;
         let operations = operations_of(alloc, code.as_slice())?;
+        let spans = spans_of(alloc, regions.as_slice(), words.len())?;
+        let guesses = Guesses::of(alloc, regions.as_slice())?;
         Ok(TextWords {
             regions,
             words,
             code,
             stored,
             operations,
+            spans,
+            guesses,
         })
     }
 
@@ -82,7 +92,12 @@ impl TextWords {
         ensures found { IsSome (shown self.now addr) → 0 < length result.now }
         ensures ends { shown self.now (addr + 4 * length result.now) ≡ None }
     {
-        let span = span_from(self.regions.as_slice(), addr, self.words.len());
+        let span = span_from(
+            self.regions.as_slice(),
+            self.guesses.guess(addr),
+            addr,
+            self.words.len(),
+        );
         &self.stored.as_slice()[span.first..span.first + span.count]
     }
 
@@ -93,17 +108,51 @@ impl TextWords {
         ensures operations { AreOperations self.now addr result.now }
         ensures ends { shown self.now (addr + 4 * length result.now) ≡ None }
     {
-        let span = span_from(self.regions.as_slice(), addr, self.words.len());
+        let span = span_from(
+            self.regions.as_slice(),
+            self.guesses.guess(addr),
+            addr,
+            self.words.len(),
+        );
         &self.operations.as_slice()[span.first..span.first + span.count]
     }
 
     /// The operations of all words that stand side by side around an address, from gap to gap; an empty region where no word of
     /// text is there.
+    #[inline(always)]
     pub fn region_at(&self, addr: u32) -> OpenRegion<'_>
         ensures operations { AreOperations self.now result.address result.operations.now }
         ensures here { IsSome (shown self.now addr) → IsAmong addr result.address (length result.operations.now) }
     {
-        let span = span_around(self.regions.as_slice(), addr, self.words.len());
+        let span = guessed_span(
+            self.regions.as_slice(),
+            self.spans.as_slice(),
+            self.guesses.guess(addr),
+            self.words.len(),
+        );
+        let region = OpenRegion {
+            address: span.address,
+            operations: &self.operations.as_slice()[span.first..span.first + span.count],
+        };
+        if region.place(addr) < region.operations.len() {
+            return region;
+        }
+        self.find_region(addr)
+    }
+
+    // The same, where the guess is of another region.
+    #[cold]
+    #[inline(never)]
+    fn find_region(&self, addr: u32) -> OpenRegion<'_>
+        ensures operations { AreOperations self.now result.address result.operations.now }
+        ensures here { IsSome (shown self.now addr) → IsAmong addr result.address (length result.operations.now) }
+    {
+        let span = span_around(
+            self.regions.as_slice(),
+            self.guesses.guess(addr),
+            addr,
+            self.words.len(),
+        );
         OpenRegion {
             address: span.address,
             operations: &self.operations.as_slice()[span.first..span.first + span.count],
@@ -144,14 +193,24 @@ impl TextWords {
     pub fn shown(&self, addr: u32) -> Option<u32>
         ensures { result ≡ shown self.now addr }
     {
-        shown_in(self.regions.as_slice(), self.words.as_slice(), addr)
+        shown_in(
+            self.regions.as_slice(),
+            self.words.as_slice(),
+            self.guesses.guess(addr),
+            addr,
+        )
     }
 
     /// Whether a breakpoint is planted at an address.
     pub fn planted(&self, addr: u32) -> bool
         ensures { result ≡ is_planted self.now addr }
     {
-        planted_in(self.regions.as_slice(), self.code.as_slice(), addr)
+        planted_in(
+            self.regions.as_slice(),
+            self.code.as_slice(),
+            self.guesses.guess(addr),
+            addr,
+        )
     }
 
     /// What stands at an address for a hart that executes it. The words were decoded when they were loaded.
@@ -159,7 +218,12 @@ impl TextWords {
     pub fn fetch(&self, addr: u32) -> Fetch
         ensures { result ≡ fetched self.now addr }
     {
-        fetch_in(self.regions.as_slice(), self.code.as_slice(), addr)
+        fetch_in(
+            self.regions.as_slice(),
+            self.code.as_slice(),
+            self.guesses.guess(addr),
+            addr,
+        )
     }
 
     // Puts what stands at a word of text from now on: a breakpoint, or the program's word. There is nothing to lift where no
@@ -169,7 +233,7 @@ impl TextWords {
         ensures { self.new ≡ record self.old { planted = if planted then set.insert self.old.planted addr else set.remove self.old.planted addr } }
     {
         let len = self.words.len();
-        let Some(i) = place_of(self.regions.as_slice(), addr, len) else {
+        let Some(i) = place_of(self.regions.as_slice(), self.guesses.guess(addr), addr, len) else {
             return
         };
         let word = self.words[i];

@@ -1,48 +1,50 @@
-use Rattle.std.proofs.Common.{◌≡◌, ◌+◌, ◌-◌, ◌≤◌, ◌∙◌, ap, arith, sym, inl, inr, ℕ}
-use Rattle.std.specs.Prelude.{IsSome}
-use Rattle.text_words.specs.Words.{shown}
-use Rattle.straight_runs.proofs.Legs.{ran_on, so_many}
-use Rattle.straight_runs.proofs.Steps.{nothing_here}
+use Rattle.std.proofs.Common.{◌≡◌, ◌+◌, ◌<◌, arith, sym}
+use Rattle.std.specs.Prelude.{slice_index_or}
+use Rattle.rv_exec.specs.Registers.{plus, set_pc}
+use Rattle.straight_runs.proofs.Steps.{IsHere, here_at, went_on}
 use Rattle.straight_runs.proofs.run.run_straight.Goals as goal
-use Rattle.straight_runs.proofs.run.run_straight.Goals.{then-leg-via-then-leg, then-leg-via-else-leg+then-leg-eq0}
+use Rattle.straight_runs.proofs.run.run_straight.Goals.{then-k-region+else-k-region-2, else-k-region}
 
-pub loop-left-preserved : goal.loop-left-preserved
-loop-left-preserved g c =
-    let l = c.loop-left in
-    let leg = c.run_in_region-leg in
-    let A = g.G.Guard.allows c.args.guard.now in
-    let n = leg.result.count in
-    let sum : c.args.limit - l.left + n ≡ c.args.limit - (l.left - n) = omega (arith, l.invariant.few, leg.ensures.count) in
+pub loop-count-preserved-in-Next : goal.loop-count-preserved-in-Next
+loop-count-preserved-in-Next g c =
+    let r = c.if-k-region.region in
+    let k = c.if-k-region.k in
+    let pc = c.loop-count.pc in
+    let d = c.index-region-k.result in
+    let here : IsHere c.args.text.now r.address k pc r.operations.now (slice_index_or r.operations.now k d) =
+    elim c.if-k-region.branch [
+      | then-k-region+else-k-region-2 w ↦
+          let ops = w.region_at-region.ensures.operations in
+          let j = w.place-k.result in
+          here_at c.args.text.now pc r w.region_at-region.result k j d ops w.if-k-region-2.false (w.place-k.ensures.here (ops.low j w.if-k-region-2.false)) w.region-is w.k-is
+      | else-k-region w ↦
+          here_at c.args.text.now pc r c.loop-count.region k c.loop-count.k d c.loop-count.invariant.operations w.if-k-region.false (c.loop-count.invariant.place w.if-k-region.false) w.region-is w.k-is
+    ] in
     record {
-      few = omega (arith, l.invariant.few);
-      low = leg.ensures.low;
-      runs =
-          so_many A (c.args.limit - l.left + n) (c.args.limit - (l.left - n)) leg.result.last c.args.text.now c.args.regs.now leg.new.regs c.args.memory.now leg.new.memory sum
-          (ran_on A (c.args.limit - l.left) n l.last leg.result.last c.args.text.now c.args.regs.now l.regs leg.new.regs c.args.memory.now l.memory leg.new.memory (λ none. (leg.ensures.same none).0) l.invariant.runs leg.ensures.runs);
+      operations = here.operations;
+      place = λ less. (let next = here.operations.low (k + 1) less in omega (arith, here.at, next));
+      runs = went_on (g.G.Guard.allows c.args.guard.now) c.loop-count.count c.loop-count.last c.args.text.now r.address k pc r.operations.now (slice_index_or r.operations.now k d) c.args.regs.now c.loop-count.regs (set_pc c.advance.new.regs (plus pc 4))
+          c.args.memory.now c.loop-count.memory c.advance.new.port here c.loop-count.invariant.runs (sym c.if-not-allows.ensures) c.in-Next.ensures.step;
     }
 
-pub returns-then-leg-clause-runs : goal.returns-then-leg-clause-runs
-returns-then-leg-clause-runs g c =
-    let l = c.loop-left in
-    let leg = c.run_in_region-leg in
-    let A = g.G.Guard.allows c.args.guard.now in
-    let n = leg.result.count in
-    let sum : c.args.limit - l.left + n ≡ c.args.limit - (l.left - n) = omega (arith, l.invariant.few, leg.ensures.count) in
-    so_many A (c.args.limit - l.left + n) (c.args.limit - (l.left - n)) leg.result.last c.args.text.now c.args.regs.now leg.new.regs c.args.memory.now leg.new.memory sum
-    (ran_on A (c.args.limit - l.left) n l.last leg.result.last c.args.text.now c.args.regs.now l.regs leg.new.regs c.args.memory.now l.memory leg.new.memory (λ none. (leg.ensures.same none).0) l.invariant.runs leg.ensures.runs)
-
-pub returns-then-leg-clause-ends : goal.returns-then-leg-clause-ends
-returns-then-leg-clause-ends g c less =
-    let leg = c.run_in_region-leg in
-    let A = g.G.Guard.allows c.args.guard.now in
-    elim c.then-leg.branch [
-      | then-leg-via-then-leg w ↦ leg.ensures.ends w.if-leg.true
-      | then-leg-via-else-leg+then-leg-eq0 w ↦
-          let stayed : leg.new.regs.pc ≡ c.pc.result = (leg.ensures.same w.if-leg-eq0.true).1 ∙ sym c.pc.ensures in
-          nothing_here A c.args.text.now leg.new.regs leg.new.memory
-          (λ some.
-          let there : IsSome (shown c.args.text.now c.pc.result) = rw stayed at some in
-          let among = c.region_at-region.ensures.here there in
-          let ran = leg.ensures.some w.if-leg.false c.loop-left-test.true (rw c.pc.ensures at among) in
-          absurd (omega (arith, ran, w.if-leg-eq0.true)))
-    ]
+pub loop-count-preserved : goal.loop-count-preserved
+loop-count-preserved g c =
+    let r = c.if-k-region.region in
+    let k = c.if-k-region.k in
+    let pc = c.loop-count.pc in
+    let d = c.index-region-k.result in
+    let here : IsHere c.args.text.now r.address k pc r.operations.now (slice_index_or r.operations.now k d) =
+    elim c.if-k-region.branch [
+      | then-k-region+else-k-region-2 w ↦
+          let ops = w.region_at-region.ensures.operations in
+          let j = w.place-k.result in
+          here_at c.args.text.now pc r w.region_at-region.result k j d ops w.if-k-region-2.false (w.place-k.ensures.here (ops.low j w.if-k-region-2.false)) w.region-is w.k-is
+      | else-k-region w ↦
+          here_at c.args.text.now pc r c.loop-count.region k c.loop-count.k d c.loop-count.invariant.operations w.if-k-region.false (c.loop-count.invariant.place w.if-k-region.false) w.region-is w.k-is
+    ] in
+    record {
+      operations = here.operations;
+      place = λ less. c.place-k-in-Jump.ensures.here (here.operations.low c.place-k-in-Jump.result less);
+      runs = went_on (g.G.Guard.allows c.args.guard.now) c.loop-count.count c.loop-count.last c.args.text.now r.address k pc r.operations.now (slice_index_or r.operations.now k d) c.args.regs.now c.loop-count.regs (set_pc c.advance.new.regs c.in-Jump.target)
+          c.args.memory.now c.loop-count.memory c.advance.new.port here c.loop-count.invariant.runs (sym c.if-not-allows.ensures) c.in-Jump.ensures.step;
+    }

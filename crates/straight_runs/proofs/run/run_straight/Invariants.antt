@@ -1,9 +1,12 @@
-use Rattle.std.proofs.Common.{◌<◌, ◌≤◌, ◌-◌, ◌^◌}
+use Rattle.std.proofs.Common.{◌≡◌, ◌<◌, ◌+◌, ◌*◌, length}
+use Rattle.rv_exec.specs.Registers.{set_pc}
+use Rattle.text_words.specs.Runs.{AreOperations}
 use Rattle.straight_runs.specs.Runs.{RanBy}
 use Rattle.straight_runs.proofs.run.run_straight.Given as goal
 
-abbrev pub invariant-loop-left : goal.invariant-loop-left
-invariant-loop-left g l = record { few : l.left ≤ l.limit; low : l.regs.pc < 2 ^ 32; runs : RanBy (g.G.Guard.allows l.guard) (l.limit - l.left) l.last l.text l.initial.regs l.initial.memory l.regs l.memory }
-
-abbrev pub decreases-loop-left : goal.decreases-loop-left
-decreases-loop-left g l = l.left
+abbrev pub invariant-loop-count : goal.invariant-loop-count
+invariant-loop-count g l = record {
+  operations : AreOperations l.text l.region.address l.region.operations.now;
+  place : l.k < length l.region.operations.now → l.pc ≡ l.region.address + 4 * l.k;
+  runs : RanBy (g.G.Guard.allows l.guard) l.count l.last l.text l.initial.regs l.initial.memory (set_pc l.regs l.pc) l.memory;
+}

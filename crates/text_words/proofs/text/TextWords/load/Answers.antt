@@ -1,5 +1,5 @@
-use Rattle.std.proofs.Common.{ap, sym, ◌∙◌, subst, length, map}
-use Rattle.text_words.specs.Layout.{AreEntries, AreKept}
+use Rattle.std.proofs.Common.{◌≡◌, ap, arith, sym, ◌∙◌, subst, length, map}
+use Rattle.text_words.specs.Layout.{AreEntries, AreKept, AreSpans}
 use Rattle.text_words.specs.Words.{operation_of}
 use Rattle.text_words.proofs.Marks.{begun, unmarked, unmarked_length, unmarked_entries, unmarked_kept}
 use Rattle.text_words.proofs.text.TextWords.load.Goals as goal
@@ -12,6 +12,9 @@ invariant_of-result c = record {
   kept = subst (λ code. AreKept c.collect.new.words.items code c.in_ok-stored.stored.items) (sym (c.in_ok-code.ensures ∙ ap unmarked c.as_slice-2.ensures.value))
       (subst (AreKept c.collect.new.words.items (unmarked c.collect.new.words.items)) (sym (c.in_ok-stored.ensures.items_if_clones_equal (λ x y e. e) ∙ c.as_slice-3.ensures.value)) (unmarked_kept c.collect.new.words.items));
   operations = c.in_ok-operations.ensures ∙ ap (map operation_of) c.as_slice-4.ensures.value;
+  spans =
+      let many : c.len.result ≡ length c.collect.new.words.items = omega (arith, c.len.ensures, c.collect.new.words.ok.0) in
+      subst (λ rs. AreSpans rs (length c.collect.new.words.items) c.in_ok-spans.spans.items) c.as_slice-5.ensures.value (subst (λ n. AreSpans c.as_slice-5.result.now n c.in_ok-spans.spans.items) many c.in_ok-spans.ensures);
 }
 
 pub returns : goal.returns

@@ -34,6 +34,7 @@ invariant_of-self c =
       entries = entries_kept t.words.items t.code.items i f c.args.planted c.self.invariant.whole low entry c.self.invariant.entries;
       kept = subst (λ v. AreKept t.words.items (slice_set t.code.items i f) (slice_set t.stored.items i v)) (sym stored) (kept_set t.words.items t.stored.items t.code.items i f c.self.invariant.whole low c.self.invariant.kept);
       operations = ap (λ xs. slice_set xs i c.operation.result) c.self.invariant.operations ∙ (ap (slice_set (map operation_of t.code.items) i) c.operation.ensures ∙ sym (map-set operation_of t.code.items i f));
+      spans = c.self.invariant.spans;
     }
 
 pub returns : goal.returns
