@@ -11,8 +11,6 @@ use Rattle.dbg_traits.specs.declared.world.Put.{Put}
 use Rattle.dbg_traits.specs.declared.world.Put.TheVariants as put
 use Rattle.system_world.specs.declared.feed.Source.{Source}
 use Rattle.system_world.specs.declared.feed.Source.TheVariants as source
-use Rattle.system_world.specs.declared.reader.Came.{Came}
-use Rattle.system_world.specs.declared.reader.Came.TheVariants as came
 
 -- The call is made again where a signal interrupted it, or the descriptor isn't ready and doesn't wait; then it rests for so many
 -- milliseconds before.
@@ -39,11 +37,11 @@ written (Ok zero) = put.Failed
 written (Ok (suc n)) = put.Took (suc n)
 written (Err e) = put.Failed
 
--- what a read of the input brings to the queue
-abbrev pub came_by : {E : Type 0} → Result ℕ E → Came
-came_by (Ok zero) = came.Nothing source.Ended
-came_by (Ok (suc n)) = came.Bytes (suc n)
-came_by (Err e) = came.Nothing source.Failed
+-- what a read of the input brings to the queue: its bytes, or how far the input came where there are none
+abbrev pub brought : {E : Type 0} → Result ℕ E → List ℕ → Result (List ℕ) Source
+brought (Ok zero) bytes = Err source.Ended
+brought (Ok (suc n)) bytes = Ok (take (suc n) bytes)
+brought (Err e) bytes = Err source.Failed
 
 -- a poll of the queue, by how many bytes were taken from it and how far the input has come
 abbrev pub poll_of : ℕ → Source → Polled
@@ -62,3 +60,17 @@ abbrev pub ReadsNext : Option (List ℕ) → Option (List ℕ) → FileRead → 
 ReadsNext old new (file.Took n) into = Consumes old new (take n into)
 ReadsNext old new file.End into = Keeps old new × (0 < length into → IsAtEnd new)
 ReadsNext old new file.Failed into = Keeps old new
+
+-- A poll of the input itself gave its next bytes, where those are known; none at the end, and nothing where it failed. It waited.
+abbrev pub PollsNext : Option (List ℕ) → Option (List ℕ) → Polled → List ℕ → Type 0
+PollsNext old new (poll.Took n) into = Consumes old new (take n into)
+PollsNext old new poll.NotYet into = ⊥
+PollsNext old new poll.End into = Keeps old new × (0 < length into → IsAtEnd new)
+PollsNext old new poll.Failed into = Keeps old new
+
+-- A read of the input brought its next bytes, where those are known; none at the end, and nothing where it failed.
+abbrev pub BringsNext : Option (List ℕ) → Option (List ℕ) → Result (List ℕ) Source → Type 0
+BringsNext old new (Ok bytes) = Consumes old new bytes
+BringsNext old new (Err source.Open) = ⊥
+BringsNext old new (Err source.Ended) = Keeps old new × IsAtEnd new
+BringsNext old new (Err source.Failed) = Keeps old new

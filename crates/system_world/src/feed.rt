@@ -44,6 +44,34 @@ fn copy_front(bytes: &[u8], into: &mut [u8]) -> usize
     n
 }
 
+/// Bytes that were read, and that the queue has yet to take: until it has, nobody can let go of them.
+pub struct Rest<'a> {
+    bytes: &'a [u8],
+}
+
+impl<'a> Rest<'a> {
+    /// All of these.
+    pub fn of(bytes: &'a [u8]) -> Rest<'a>
+        ensures { result.bytes.now ≡ bytes.now }
+    {
+        Rest { bytes }
+    }
+
+    /// Whether the queue took them all.
+    pub fn is_taken(&self) -> bool
+        ensures { IsTrue result ↔ (self.now.bytes.now ≡ []) }
+    {
+        self.bytes.is_empty()
+    }
+
+    /// Lets go of what is left, which is nothing.
+    pub fn end(self)
+        requires { self.bytes.now ≡ [] }
+    {
+        let Rest { bytes: _ } = self;
+    }
+}
+
 /// Bytes that were read and not polled yet, in one run. It has its room from the start.
 #[derive(Drop)]
 pub struct Feed {
@@ -123,17 +151,17 @@ impl Feed {
         self.polled = 0;
     }
 
-    /// Takes in the first bytes, as many as there is room for, and says how many.
-    pub fn give(&mut self, bytes: &[u8]) -> usize
-        ensures within { result ≤ length bytes.now }
-        ensures behind { waiting self.new ≡ waiting self.old ++ take result bytes.now }
+    /// Takes in the first bytes, as many as there is room for, and hands back the others.
+    pub fn give<'a>(&mut self, rest: Rest<'a>) -> Rest<'a>
+        ensures { waiting self.new ++ result.bytes.now ≡ waiting self.old ++ rest.entry.bytes.now }
     {
         if self.bytes.len() >= ROOM {
             self.make_room();
         }
+        let Rest { bytes } = rest;
         let n = bytes.len().min(ROOM.saturating_sub(self.bytes.len()));
         self.bytes.extend_from_slice(&bytes[..n]).unwrap();
-        n
+        Rest { bytes: &bytes[n..] }
     }
 
     // Moves the oldest bytes into the slice, and says how many.

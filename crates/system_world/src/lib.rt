@@ -6,9 +6,11 @@ mod arguments;
 mod feed;
 mod gate;
 mod reader;
+mod shared;
 mod world;
 
 pub use arguments::words;
 pub use gate::RestingGate;
-pub use reader::{Shared, pump};
+pub use reader::pump;
+pub use shared::Shared;
 pub use world::RealWorld;

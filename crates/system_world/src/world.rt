@@ -1,11 +1,11 @@
 // The real world: a file, standard input and standard output. It is the trusted edge, and tells no bytes.
 ghost use Rattle.std.specs.Prelude.{◌≡◌, ◌<◌, ◌≤◌, is_some, length, true};
-ghost use Rattle.system_world.specs.Edge.{PutAppends, ReadsNext, file_read, polled, written};
+ghost use Rattle.system_world.specs.Edge.{PollsNext, PutAppends, ReadsNext, file_read, polled, written};
 ghost use Rattle.system_world.specs.RealTold.{real_told, PollsWithin, PutsWithin, ReadsWithin};
 ghost use Rattle.dbg_traits.specs.declared.world.Polled.TheVariants.{NotYet};
 
 use crate::again;
-use crate::reader::Shared;
+use crate::shared::Shared;
 use dbg_traits::{ArgText, FileRead, NamePlace, Polled, Put, World, place_of};
 use std::alloc::Global;
 use std::io::{Read, Write};
@@ -51,6 +51,14 @@ fn read_next<R: Wait + Clock, S: Read>(rt: &R, file: &mut S, into: &mut [u8]) ->
     file_read(again::read(rt, file, into))
 }
 
+// Polls the next bytes of the input, for which it waits.
+fn poll_next<R: Wait + Clock, S: Read>(rt: &R, input: &mut S, into: &mut [u8]) -> Polled
+    ensures within { PollsWithin (length into.new) result }
+    ensures bytes { PollsNext (S.remaining input.old) (S.remaining input.new) result into.new }
+{
+    polled(again::read(rt, input, into))
+}
+
 // Writes the first bytes of a piece, as many as are taken.
 fn put_to<R: Wait + Clock, S: Write>(rt: &R, sink: &mut S, piece: &[u8]) -> Put
     ensures within { PutsWithin (length piece.now) result }
@@ -82,7 +90,8 @@ impl<R: Files + Input + Print + Clock + Wait> RealWorld<R> {
 
     /// A world with these words, of which nothing was read, polled or put. Its input comes by the queue, where there is one.
     pub fn new(rt: R, words: Vec<ArgText>, input: Option<Arc<Shared, Global>>) -> RealWorld<R>
-        ensures { IsFresh (real_told result.words.items result.name result.file_length result.input_length result.polls result.file_faults result.poll_faults result.put_faults result.file_ended result.poll_ended) }
+        ensures words { result.words ≡ words }
+        ensures fresh { IsFresh (real_told result.words.items result.name result.file_length result.input_length result.polls result.file_faults result.poll_faults result.put_faults result.file_ended result.poll_ended) }
     {
         RealWorld {
             rt,
@@ -119,7 +128,7 @@ impl<R: Files + Input + Print + Clock + Wait> RealWorld<R> {
     {
         match &self.input {
             Some(shared) => shared.poll(&self.rt, wait, into),
-            None => polled(again::read(&self.rt, &mut self.rt.reader(), into)),
+            None => poll_next(&self.rt, &mut self.rt.reader(), into),
         }
     }
 }

@@ -1,0 +1,8 @@
+use Rattle.std.proofs.Common.{◌≡◌, ◌++◌, map, drop}
+use Rattle.std.specs.Prelude.{string_bytes}
+use Rattle.std.specs.Vec.Iter.{into_iter_items}
+use Rattle.system_world.proofs.arguments.words_of.Given as goal
+
+abbrev pub invariant-loop-word : goal.invariant-loop-word
+invariant-loop-word l =
+    l.words.items ++ map string_bytes (into_iter_items l.word-iterator) ≡ map string_bytes (drop 1 (into_iter_items l.fn.args))
