@@ -152,11 +152,13 @@ def check_stack(rig):
 
 
 def check_long_words(rig):
-    """A word that fills its line takes no stack for each of its bytes: one of letters, of zeros, of `:`, of blanks and of octal escapes."""
+    """A word that fills its line takes no stack for each of its bytes: one of letters, of zeros, of `:`, of `-`, a number in hexadecimal,
+    a line of a file, and C strings of blanks and of octal escapes."""
     for front in WORD_FRONTS.split(b"\n"):
         front += b"" if front[-1:] in b"-*$=" else b" "
         room = LINE - len(front) - 2
-        words = [byte * room for byte in (b"a", b"0", b":")] + [b'"%s"' % (part * (room // len(part))) for part in (b" ", b"\\012")]
+        words = [byte * room for byte in (b"a", b"0", b":", b"-")] + [before + b"0" * (room - 2) for before in (b"0x", b"a:")]
+        words += [b'"%s"' % (part * (room // len(part))) for part in (b" ", b"\\012")]
         lines = b"".join(front + word + b"\n" for word in words)
         status, output = rig.run(["--workers", "0", "exit"], lines, preexec_fn=little_stack)
         rig.row("long words of %s" % front.decode().strip(), (status, output.count(b"(gdb)\n")), (0, 1 + len(words)))

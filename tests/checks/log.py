@@ -136,10 +136,9 @@ def check_rows(rig):
 
 
 def check_long(rig):
-    """One byte too many is told before all else, and the most bytes are read."""
-    rig.row("check: too long", checked(rig, bytes(MOST + 1)), rejected("Long at %d" % MOST))
+    """The most bytes are read."""
     text = (b"x" * 63 + b"\n") * (MOST // 64)
-    rig.row("check: as long as can be", checked(rig, text), rejected(fault_of(text)))
+    rig.row("check: as long as can be", checked(rig, text), rejected("End at %d" % (MOST // 64 + 1)))
 
 
 def damaged(dice, text):

@@ -1,5 +1,5 @@
 // The session that rows run.
-use crate::holding::Holding;
+use crate::holding::{Handed, Holding, Whose};
 use crate::left::Left;
 use crate::plan::{Plan, Trial};
 use dbg_session::{Closed, Ended, Status, debug_run};
@@ -9,14 +9,16 @@ use std::io;
 use std::io::{Input, Print};
 use std::sync::Wait;
 use std::thread::Threads;
-use test_rows::{RowFault, is_remark, read_bytes, tell};
+use test_rows::{RowFault, is_remark, number, read_bytes, tell};
 
-/// The world of the next session, a text that outputs are put beside, and what is left of the last session.
+/// The world of the next session, a text that outputs are put beside, and what is left of the last session, with how
+/// many slices it handed out.
 #[derive(Drop)]
 pub struct SessionBench {
     plan: Plan,
     text: Vec<u8>,
     last: Option<Left>,
+    handed: Handed,
 }
 
 // How a session ended, and whether what its first slice waited for came.
@@ -49,6 +51,10 @@ impl SessionBench {
             plan: Plan::new(alloc),
             text: Vec::new(alloc),
             last: None,
+            handed: Handed {
+                first: 0,
+                others: 0,
+            },
         }
     }
 
@@ -90,6 +96,7 @@ impl SessionBench {
         let world = self.plan.world(alloc, trial)?;
         let gate = Holding::new(trial.waiting());
         let ended = debug_run(rt, alloc, world, &gate);
+        self.handed = gate.handed();
         let status = self.end(alloc, ended)?;
         Ok(told_end(alloc, status, trial, gate.was_met())?)
     }
@@ -102,6 +109,21 @@ impl SessionBench {
         }
     }
 
+    // How many slices of the first hart, or of the others, were handed out.
+    fn told_handed(&self, alloc: Global, rest: &str) -> Result<String, RowFault> {
+        let (whose, most) = rest.split_once(' ').ok_or(RowFault::Unknown)?;
+        let whose = Whose::read(whose).ok_or(RowFault::Unknown)?;
+        let most = number(most).ok_or(RowFault::Unknown)?;
+        Ok(String::from_str(alloc, self.handed.answer(whose, most))?)
+    }
+
+    // What the last session wrote, as a piece of the next one's input.
+    fn add_written(&mut self, alloc: Global) -> Result<(), RowFault> {
+        let left = self.last.as_ref().ok_or(RowFault::Unknown)?;
+        let written = left.output.as_slice().to_vec(alloc)?;
+        self.plan.add_piece(written)
+    }
+
     fn set_text(&mut self, alloc: Global, text: &str) -> Result<(), AllocError> {
         self.text = read_bytes(alloc, text)?;
         Ok(())
@@ -111,19 +133,22 @@ impl SessionBench {
     fn set(&mut self, alloc: Global, word: &str, rest: &str) -> Result<String, RowFault> {
         match word {
             "text" => self.set_text(alloc, rest)?,
+            "written" => self.add_written(alloc)?,
             _ => self.plan.set(alloc, word, rest)?,
         }
         Ok(String::from_str(alloc, "set")?)
     }
 
-    /// What came of a row that runs no session: `text BYTES` is what outputs are put beside; the others are rows of `Left` or
-    /// of `Plan`.
+    /// What came of a row that runs no session: `text BYTES` is what outputs are put beside; `written` adds what the
+    /// last session wrote to the input; `handed WHOSE MOST` asks whether none, some or more than MOST slices of the
+    /// `first` hart, or of the `others`, were handed out; the others are rows of `Left` or of `Plan`.
     pub fn answer(&mut self, alloc: Global, row: &str) -> Result<String, RowFault> {
         let (word, rest) = row.split_once(' ').unwrap_or((row, ""));
         match word {
-            "size" | "output" | "journal" | "count" | "hart" | "executed" => {
+            "size" | "output" | "without" | "journal" | "count" | "hart" | "executed" => {
                 self.asked(alloc, word, rest)
             }
+            "handed" => self.told_handed(alloc, rest),
             _ => self.set(alloc, word, rest),
         }
     }

@@ -4,7 +4,7 @@ use dbg_session::Closed;
 use hart_machine::Machine;
 use memory_world::MemWorld;
 use std::alloc::{AllocError, Global};
-use test_rows::RowFault;
+use test_rows::{RowFault, read_bytes};
 
 /// What was written, and what is left of the session, where one was begun.
 #[derive(Drop)]
@@ -104,6 +104,18 @@ fn told_executed(alloc: Global, machine: &Machine) -> Result<String, AllocError>
     format!(in alloc; "{executed}")
 }
 
+// An output without a piece, where that stands in it first. None where it doesn't.
+fn without(alloc: Global, output: &[u8], piece: &[u8]) -> Result<Option<Vec<u8>>, AllocError> {
+    for at in 0..output.len() {
+        if let Some(behind) = output[at..].strip_prefix(piece) {
+            let mut left = output[..at].to_vec(alloc)?;
+            left.extend_from_slice(behind)?;
+            return Ok(Some(left));
+        }
+    }
+    Ok(None)
+}
+
 fn told_begun(alloc: Global, output: &[u8]) -> Result<String, AllocError> {
     let count = output.len();
     format!(in alloc; "{count} bytes of the text")
@@ -119,6 +131,20 @@ fn compared(alloc: Global, output: &[u8], text: &[u8]) -> Result<String, AllocEr
         told_begun(alloc, output)
     } else {
         String::from_str(alloc, "another")
+    }
+}
+
+// What was written but for a piece, beside a text.
+fn compared_without(
+    alloc: Global,
+    output: &[u8],
+    piece: &str,
+    text: &[u8],
+) -> Result<String, AllocError> {
+    let piece = read_bytes(alloc, piece)?;
+    match without(alloc, output, piece.as_slice())? {
+        Some(left) => compared(alloc, left.as_slice(), text),
+        None => String::from_str(alloc, "the piece isn't there"),
     }
 }
 
@@ -147,9 +173,10 @@ impl Left {
         Ok(Left { output, closed })
     }
 
-    /// What a row asks for: `size`, how many bytes were written; `output`, what was written, beside a text; `journal`, what was
-    /// done, an entry by an entry; `count MARK`, how many entries are so marked there; `hart`, where the first hart is, and how many
-    /// instructions it executed; `executed`, how many all harts did. Where no session was begun the last four say so.
+    /// What a row asks for: `size`, how many bytes were written; `output`, what was written, beside a text; `without
+    /// BYTES`, the same but for these bytes where they stand first; `journal`, what was done, an entry by an entry;
+    /// `count MARK`, how many entries are so marked there; `hart`, where the first hart is, and how many instructions
+    /// it executed; `executed`, how many all harts did. Where no session was begun the last four say so.
     pub fn answer(
         &self,
         alloc: Global,
@@ -160,6 +187,7 @@ impl Left {
         match word {
             "size" => Ok(told_size(alloc, self.output.as_slice())?),
             "output" => Ok(compared(alloc, self.output.as_slice(), text)?),
+            "without" => Ok(compared_without(alloc, self.output.as_slice(), rest, text)?),
             _ => match &self.closed {
                 Some(closed) => told(alloc, closed, word, rest),
                 None => Ok(String::from_str(alloc, "no session")?),

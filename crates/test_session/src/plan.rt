@@ -179,6 +179,11 @@ impl Plan {
         }
     }
 
+    /// Puts bytes behind the input, as a piece.
+    pub fn add_piece(&mut self, bytes: Vec<u8>) -> Result<(), RowFault> {
+        Ok(self.input.push(Cue::Piece(bytes))?)
+    }
+
     fn limits(&self, alloc: Global, trial: Trial) -> Result<Limits, RowFault> {
         let (read, poll, put) = self.most;
         let (failing_read, failing_put) = match trial {
