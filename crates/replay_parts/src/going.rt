@@ -1,5 +1,6 @@
 // Registers and a memory, over text that nothing is planted in.
-ghost use Rattle.std.specs.Prelude.{◌≡◌, ◌≤◌, ◌<◌, ℕ, false, map, nat_le, ◌&&◌};
+ghost use Rattle.std.specs.Prelude.{◌≡◌, ◌==◌, ◌≤◌, ◌<◌, ◌^◌, ℕ, false, map, nat_le, not, ◌&&◌};
+ghost use Rattle.dbg_model.specs.Judging.{is_kept};
 ghost use Rattle.elf32_read.specs.Program.{Program};
 ghost use Rattle.text_words.specs.Words.{unpatched};
 ghost use Rattle.break_table.specs.Entry.{entry_of};
@@ -8,7 +9,6 @@ ghost use Rattle.replay_parts.specs.Further.{AllGo, goes_alone};
 
 use break_table::{BreakEntry, BreakTable};
 use data_memory::DataMemory;
-use dbg_model::is_kept;
 use rv_exec::{Operation, Regs};
 use step_plans::Plan;
 use straight_runs::{Guard, run_straight};
@@ -55,12 +55,46 @@ pub struct Way<'a> {
     pub plan: Plan,
 }
 
+// Where a plan stays.
+#[derive(Clone, Copy)]
+struct Stays {
+    // Nowhere.
+    never: bool,
+    // Not here; past all addresses where it stays at each.
+    end: u64,
+}
+
+// Past all addresses.
+const PAST: u64 = 1 << 32;
+
+// Where a plan stays: what is asked at each instruction is looked up once.
+fn where_it_stays(plan: Plan) -> Stays
+    ensures { (addr : ℕ) → addr < 2 ^ 32 → is_kept plan addr ≡ (not result.never && not (addr == result.end)) }
+{
+    match plan {
+        Plan::Free => Stays {
+            never: false,
+            end: PAST,
+        },
+        Plan::ToReturn { ret, .. } | Plan::Finish { ret, .. } => Stays {
+            never: false,
+            end: u64::from(ret),
+        },
+        Plan::One { .. } | Plan::Line { .. } | Plan::ToBody { .. } => Stays {
+            never: true,
+            end: PAST,
+        },
+    }
+}
+
 // A hart goes on by itself where its plan stays and no enabled breakpoint stands.
 #[derive(Clone, Copy)]
 struct Freely<'a> {
     plan: Plan,
+    stays: Stays,
     table: &'a BreakTable,
     reach: Reach,
+    ghost kept: { (addr : ℕ) → addr < 2 ^ 32 → is_kept plan addr ≡ (not stays.never && not (addr == stays.end)) },
     ghost reaches: { (at : ℕ) → (nat_le reach.low at && nat_le at reach.high) ≡ false → stands at table.now.entries ≡ false },
 }
 
@@ -73,11 +107,14 @@ impl<'a> Guard for Freely<'a> {
 
     #[inline(always)]
     fn allows(&self, pc: u32, _operation: &Operation) -> bool {
-        is_kept(self.plan, pc) && !is_broken(self.table, self.reach, pc)
+        !self.stays.never
+            && u64::from(pc) != self.stays.end
+            && !is_broken(self.table, self.reach, pc)
     }
 }
 
 /// At most so many instructions of a hart that goes on by itself, and how many they were: fewer where it doesn't any longer.
+#[inline(never)]
 pub fn go(way: &Way<'_>, regs: &mut Regs, memory: &mut DataMemory, limit: u64) -> u64
     ensures limit { result ≤ limit }
     ensures goes { (p : Program) → way.now.words.now ≡ unpatched p → AllGo result p way.now.table.now.entries way.now.plan regs.old memory.old regs.new memory.new }
@@ -85,6 +122,7 @@ pub fn go(way: &Way<'_>, regs: &mut Regs, memory: &mut DataMemory, limit: u64) -
 {
     let guard = Freely {
         plan: way.plan,
+        stays: where_it_stays(way.plan),
         table: way.table,
         reach: reach_of(way.table.entries()),
     };
