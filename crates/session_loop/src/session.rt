@@ -32,6 +32,8 @@ pub struct Session<W: World> {
     engine: Engine,
     buffer: Vec<u8>,
     start: usize,
+    // What input comes through. It stands here, so that no round has to clear it.
+    piece: [u8; PIECE],
     // What the last line saw of the harts, in memory that the next one takes over.
     threads: Vec<ThreadView>,
     // The lines that were put last, in memory that the next ones take over.
@@ -104,6 +106,7 @@ impl<W: World> Session<W> {
             engine,
             buffer: Vec::new(alloc),
             start: 0,
+            piece: [0; PIECE],
             threads: Vec::new(alloc),
             lines: opening,
             count: 0,
@@ -127,7 +130,7 @@ impl<W: World> Session<W> {
         }
     }
 
-    // Takes input, where no whole line is kept and the input has not ended. True where it got on. Its piece takes stack only here.
+    // Takes input, where no whole line is kept and the input has not ended. True where it got on.
     #[inline(never)]
     fn take_input(&mut self) -> bool
         requires { self.old.status ≡ None }
@@ -142,8 +145,7 @@ impl<W: World> Session<W> {
             return false;
         }
         let wait = !self.engine.any_running();
-        let mut piece = [0u8; PIECE];
-        match input_once(&mut self.world, &mut self.buffer, &mut piece, wait) {
+        match input_once(&mut self.world, &mut self.buffer, &mut self.piece, wait) {
             Input::Took(n) => {
                 let before = self.buffer.len() - n;
                 self.known = self.known.behind(&self.buffer[before..]);
@@ -289,6 +291,7 @@ impl<W: World> Session<W> {
             engine,
             buffer: _,
             start: _,
+            piece: _,
             threads: _,
             lines: _,
             count: _,
