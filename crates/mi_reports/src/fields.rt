@@ -68,6 +68,7 @@ pub fn write_text(into: &mut Vec<u8>, lead: u8, key: Key, bytes: &[u8]) -> Resul
 
 // Puts a field at the end that is a text whose bytes are spelled as they are.
 #[tactic(auto, using(std::proofs::lemmas::Grind::common_steps, crate::proofs::Led::own_led))]
+#[inline(always)]
 fn write_own(into: &mut Vec<u8>, lead: u8, key: Key, bytes: &[u8]) -> Result<(), AllocError>
     requires { list_all is_own bytes.now ≡ true }
     ensures { Adds result into.old.items into.new.items (led lead (says key bytes.now)) }
@@ -78,6 +79,7 @@ fn write_own(into: &mut Vec<u8>, lead: u8, key: Key, bytes: &[u8]) -> Result<(),
 
 /// Puts a field that is a fixed text at the end.
 #[tactic(auto, using(crate::proofs::Names::phrase_own))]
+#[inline(always)]
 pub fn write_phrase(
     into: &mut Vec<u8>,
     lead: u8,
@@ -91,6 +93,7 @@ pub fn write_phrase(
 
 /// Puts a field that is a number in decimal at the end.
 #[tactic(auto, using(crate::proofs::Bytes::decimal_own))]
+#[inline(always)]
 pub fn write_number(into: &mut Vec<u8>, lead: u8, key: Key, n: u64) -> Result<(), AllocError>
     ensures { Adds result into.old.items into.new.items (led lead (says key (decimal n))) }
 {
@@ -99,6 +102,7 @@ pub fn write_number(into: &mut Vec<u8>, lead: u8, key: Key, n: u64) -> Result<()
 }
 
 /// Puts a field that is a word in decimal at the end.
+#[inline(always)]
 pub fn write_word(into: &mut Vec<u8>, lead: u8, key: Key, n: u32) -> Result<(), AllocError>
     ensures { Adds result into.old.items into.new.items (led lead (says key (decimal n))) }
 {
@@ -107,6 +111,7 @@ pub fn write_word(into: &mut Vec<u8>, lead: u8, key: Key, n: u32) -> Result<(), 
 
 /// Puts a field that is an address at the end.
 #[tactic(auto, using(crate::proofs::Bytes::address_own))]
+#[inline(always)]
 pub fn write_address(into: &mut Vec<u8>, lead: u8, key: Key, address: u32) -> Result<(), AllocError>
     ensures { Adds result into.old.items into.new.items (led lead (says key (address_text address))) }
 {
