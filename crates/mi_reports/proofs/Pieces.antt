@@ -15,17 +15,24 @@ use Rattle.mi_values.specs.FieldLists.{notice_of, result_of}
 use Rattle.mi_values.specs.Record.{line_bytes}
 use Rattle.mi_values.specs.Records.{lines_bytes}
 use Rattle.mi_values.specs.Spelling.{value_bytes}
+use Rattle.mi_values.specs.Tree.{Tree}
 use Rattle.mi_values.proofs.Joined.{bytes_joined}
 use Rattle.mi_reports.specs.declared.words.Key.TheVariants as key
+use Rattle.mi_reports.specs.declared.words.Phrase.{Phrase}
+use Rattle.mi_reports.specs.declared.words.Phrase.TheVariants as phrase
 use Rattle.mi_reports.specs.Words.{key_text, says}
 use Rattle.mi_reports.specs.Frames.{frame_rest, frame_fields, frame_field}
-use Rattle.mi_reports.specs.Led.{head, behind, begun}
+use Rattle.mi_reports.specs.Led.{head, led, behind, opened, begun}
 use Rattle.mi_reports.specs.Lines.{lines_of}
 use Rattle.mi_reports.specs.Pieces.{frame_begun, threads_told, threads_ended}
 use Rattle.mi_reports.specs.Reasons.{condition_of, reason_fields}
 use Rattle.mi_reports.specs.Replies.{running_line, content_lines}
 use Rattle.mi_reports.specs.Text.{place_fields, stopped_line, signal_fields, end_fields, hit_fields}
+use Rattle.mi_reports.specs.Phrases.{phrase_text}
+use Rattle.mi_reports.specs.Breakpoints.{enabled}
 use Rattle.mi_reports.specs.Triggers.{trigger_fields}
+use Rattle.mi_reports.specs.Watches.{listed_fields}
+use Rattle.watch_points.specs.declared.watchpoint.Watch.{Watch}
 use Rattle.mi_reports.proofs.Bytes.{address_spelled, decimal_spelled}
 use Rattle.mi_reports.proofs.Led.{tuple_led, text_led, one_led, notice_led}
 
@@ -70,3 +77,28 @@ done_bytes token = append_assoc token (codes "^done\n") (codes "(gdb)\n")
 pub exit_bytes : (token : List ℕ) → lines_bytes (content_lines token content.Exit) ≡ codes "" ++ (token ++ codes "^exit\n")
 unfolding line_bytes result_of key_text value_bytes
 exit_bytes token = append-nil (token ++ codes "^exit\n")
+
+-- ---- a watch in the table
+
+-- one text behind another
+behind_both : (old middle new a b : List ℕ) → middle ≡ old ++ a → new ≡ middle ++ b → new ≡ old ++ (a ++ b)
+behind_both old middle new a b one two = two ∙ (ap (λ (l : List ℕ). l ++ b) one ∙ append_assoc old a b)
+
+abbrev kind_fields : Phrase → List (List ℕ × Tree)
+kind_fields status = says key.Type (phrase_text phrase.WatchpointType) ∷ says key.Disp (phrase_text phrase.Kept) ∷ says key.Enabled (phrase_text status) ∷ []
+
+listed_bytes : (w : Watch)
+    → led 123 (says key.Number (decimal w.number)) ++ (behind (kind_fields (enabled w.enabled)) ++ (led 44 (says key.What w.text) ++ led 44 (says key.Times (decimal w.times))))
+    ≡ opened 123 (listed_fields w)
+unfolding listed_fields
+listed_bytes w = simp (append_assoc, append-nil)
+
+pub listed_written : (w : Watch) (status : Phrase) (text old a b c new : List ℕ) → status ≡ enabled w.enabled → text ≡ w.text
+    → a ≡ old ++ led 123 (says key.Number (decimal w.number)) → b ≡ a ++ behind (kind_fields status) → c ≡ b ++ led 44 (says key.What text)
+    → new ≡ c ++ led 44 (says key.Times (decimal w.times)) → new ≡ old ++ opened 123 (listed_fields w)
+listed_written w status text old a b c new status_is text_is one two three four =
+    let kind = two ∙ ap (λ (s : Phrase). a ++ behind (kind_fields s)) status_is in
+    let what = three ∙ ap (λ (t : List ℕ). b ++ led 44 (says key.What t)) text_is in
+    let last = behind_both b c new _ _ what four in
+    let rest = behind_both a b new _ _ kind last in
+    behind_both old a new _ _ one rest ∙ ap (λ (l : List ℕ). old ++ l) (listed_bytes w)
