@@ -11,7 +11,7 @@ use Rattle.dbg_model.specs.declared.shown.Shown.TheVariants.{Stop}
 use Rattle.dbg_model.specs.declared.reply.Content.TheVariants as content
 use Rattle.dbg_model.specs.declared.shown.ShownWatch.{ShownWatch}
 use Rattle.mi_values.specs.declared.sign.NoticeSign.TheVariants.{Exec}
-use Rattle.mi_values.specs.FieldLists.{notice_of, result_of}
+use Rattle.mi_values.specs.FieldLists.{result_of}
 use Rattle.mi_values.specs.Record.{line_bytes}
 use Rattle.mi_values.specs.Records.{lines_bytes}
 use Rattle.mi_values.specs.Spelling.{value_bytes}

@@ -26,7 +26,6 @@ use mi_values::Token;
 use std::alloc::AllocError;
 
 // A thread goes on.
-#[tactic(auto, using(crate::proofs::Pieces::running_bytes))]
 fn write_running_line(into: &mut Vec<u8>, thread: u32) -> Result<(), AllocError>
     ensures { Adds result into.old.items into.new.items (line_bytes (running_line thread)) }
 {
@@ -59,7 +58,6 @@ fn write_exit(into: &mut Vec<u8>, token: &Token) -> Result<(), AllocError>
     put(into, "", token.as_bytes(), "^exit\n")
 }
 
-#[tactic(auto, using(crate::proofs::Pieces::done_bytes))]
 fn write_plain(into: &mut Vec<u8>, token: &Token) -> Result<(), AllocError>
     ensures { Adds result into.old.items into.new.items (lines_bytes (content_lines token.now Content.Done)) }
 {

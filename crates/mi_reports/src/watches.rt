@@ -20,7 +20,6 @@ pub fn write_watch(into: &mut Vec<u8>, number: u32, expression: &[u8]) -> Result
 }
 
 // The fields of a watch of the table behind their bracket.
-#[tactic(auto, using(std::proofs::lemmas::Grind::common_steps), unfolding(crate::specs::Watches::listed_fields))]
 fn write_fields(into: &mut Vec<u8>, watch: &Watch) -> Result<(), AllocError>
     ensures { Adds result into.old.items into.new.items (opened 123 (listed_fields watch.now)) }
 {
