@@ -88,21 +88,6 @@ left_says o s front x xs code noted =
 says_by : (o : Opening) (j : List Entry) (s : State) (front : List Hart) (x : Hart) (xs : List Hart) (noted : ℕ) (m : Mode) → x.mode ≡ m → s.exited ≡ false → any_leaves front ≡ false → Leaves o j (placed s (front ++ x ∷ xs) noted)
     → ((k : List Entry) (y : Hart) (n : ℕ) → is_leaving y.mode ≡ false → Leaves o k (placed s ((front ++ y ∷ []) ++ xs) n) → Says o k (front ++ y ∷ []) xs)
     → Says o j front (x ∷ xs)
-says_by o j s front x xs noted mode.Stopped is still quiet l ih =
-    let same : gone x ≡ x = ap (λ m. gone_by m x) is in
-    let rest : Says o j (front ++ x ∷ []) xs = ih j x noted (ap is_leaving is) (rw (append_assoc front (x ∷ []) xs) l) in
-    next_says o j front x xs [] [] (ap (left_one (length front)) is) (ap (λ m. left_lines (all_gone front) (length front) m xs) is) (quiet_said o j)
-    (rw (append-nil j, same) rest)
-says_by o j s front x xs noted mode.Running is still quiet l ih =
-    let same : gone x ≡ x = ap (λ m. gone_by m x) is in
-    let rest : Says o j (front ++ x ∷ []) xs = ih j x noted (ap is_leaving is) (rw (append_assoc front (x ∷ []) xs) l) in
-    next_says o j front x xs [] [] (ap (left_one (length front)) is) (ap (λ m. left_lines (all_gone front) (length front) m xs) is) (quiet_said o j)
-    (rw (append-nil j, same) rest)
-says_by o j s front x xs noted mode.Exited is still quiet l ih =
-    let same : gone x ≡ x = ap (λ m. gone_by m x) is in
-    let rest : Says o j (front ++ x ∷ []) xs = ih j x noted (ap is_leaving is) (rw (append_assoc front (x ∷ []) xs) l) in
-    next_says o j front x xs [] [] (ap (left_one (length front)) is) (ap (λ m. left_lines (all_gone front) (length front) m xs) is) (quiet_said o j)
-    (rw (append-nil j, same) rest)
 says_by o j s front x xs noted (mode.Leaving code) is still quiet l ih =
     let same : gone x ≡ exited x = ap (λ m. gone_by m x) is in
     let e : Entry = Left (length front) code in
@@ -112,6 +97,11 @@ says_by o j s front x xs noted (mode.Leaving code) is still quiet l ih =
     next_says o j front x xs (e ∷ []) (gone_lines (length front) ++ last_lines (all_gone front && all_gone xs) code) (ap (left_one (length front)) is) (ap (λ m. left_lines (all_gone front) (length front) m xs) is)
     (said_added o j (placed s (front ++ x ∷ xs) noted) e l ∙ ap (λ t. said_lines o j ++ t) (left_says o s front x xs code noted))
     (rw same rest)
+says_by o j s front x xs noted m is still quiet l ih =
+    let same : gone x ≡ x = ap (λ n. gone_by n x) is in
+    let rest : Says o j (front ++ x ∷ []) xs = ih j x noted (ap is_leaving is) (rw (append_assoc front (x ∷ []) xs) l) in
+    next_says o j front x xs [] [] (ap (left_one (length front)) is) (ap (λ n. left_lines (all_gone front) (length front) n xs) is) (quiet_said o j)
+    (rw (append-nil j, same) rest)
 
 says : (o : Opening) (j : List Entry) (s : State) (front xs : List Hart) (noted : ℕ) → s.exited ≡ false → any_leaves front ≡ false → Leaves o j (placed s (front ++ xs) noted) → Says o j front xs
 says o j s front [] noted still quiet l = quiet_said o j
@@ -124,16 +114,12 @@ or_false true b h = cc
 or_false false b h = (refl, h)
 
 quiet_left : (k : ℕ) (m : Mode) → is_leaving m ≡ false → left_one k m ≡ []
-quiet_left k mode.Stopped h = refl
-quiet_left k mode.Running h = refl
 quiet_left k (mode.Leaving code) h = cc
-quiet_left k mode.Exited h = refl
+quiet_left k m h = refl
 
 quiet_gone : (x : Hart) (m : Mode) → is_leaving m ≡ false → gone_by m x ≡ x
-quiet_gone x mode.Stopped h = refl
-quiet_gone x mode.Running h = refl
 quiet_gone x (mode.Leaving code) h = cc
-quiet_gone x mode.Exited h = refl
+quiet_gone x m h = refl
 
 quiet_lefts : (k : ℕ) (xs : List Hart) → any_leaves xs ≡ false → lefts_from k xs ≡ []
 quiet_lefts k [] h = refl
@@ -144,10 +130,8 @@ quiet_map [] h = refl
 quiet_map (x ∷ xs) h = let b = or_false (is_leaving x.mode) (any_leaves xs) h in ap (λ t. t ∷ map gone xs) (quiet_gone x x.mode b.0) ∙ ap (λ t. x ∷ t) (quiet_map xs b.1)
 
 live_leaver : (m : Mode) (b : Bool) (all : Bool) → (is_leaving m || b) ≡ true → (b ≡ true → all ≡ false) → (has_exited m && all) ≡ false
-live_leaver mode.Stopped b all h ih = refl
-live_leaver mode.Running b all h ih = refl
-live_leaver (mode.Leaving code) b all h ih = refl
 live_leaver mode.Exited b all h ih = ih h
+live_leaver m b all h ih = refl
 
 -- a hart that leaves is live
 some_live : (xs : List Hart) → any_leaves xs ≡ true → all_gone xs ≡ false

@@ -1,7 +1,10 @@
 -- What the fields of a line, of a tuple and of a list are, field by field.
 use Rattle.std.proofs.Common.{◌≡◌, ℕ, List, [], ◌∷◌, ◌++◌, true, false, refl, ap, ◌∙◌, append_assoc}
 use Rattle.mi_values.specs.declared.sign.NoticeSign.{NoticeSign}
-use Rattle.mi_text.specs.CString.{c_string}
+use Rattle.std.specs.Prelude.{codes}
+use Rattle.std.specs.List.{list_all}
+use Rattle.mi_text.specs.CString.{c_string, is_own}
+use Rattle.mi_text.proofs.Spelled.{own_escapes}
 use Rattle.mi_values.specs.Tree.{Tree, text, tuple, items, item, no_item, named, fields_of, items_of}
 use Rattle.mi_values.specs.FieldLists.{tuple_of, in_brackets, notice_of, result_of}
 use Rattle.mi_values.specs.Spelling.{value_bytes, fields_from, items_from}
@@ -33,6 +36,10 @@ led_head lead k v = simp append_assoc
 pub text_led : (lead : ℕ) (k : Key) (t : List ℕ) → led lead (says k t) ≡ head lead k ++ c_string t
 unfolding value_bytes
 text_led lead k t = led_head lead k (text t)
+
+-- a text whose bytes are spelled as they are
+pub own_led : (lead : ℕ) (k : Key) (t : List ℕ) → list_all is_own t ≡ true → led lead (says k t) ≡ head lead k ++ (codes "\"" ++ (t ++ codes "\""))
+own_led lead k t own = text_led lead k t ∙ ap (λ (l : List ℕ). head lead k ++ (34 ∷ (l ++ 34 ∷ []))) (own_escapes t own)
 
 pub tuple_led : (lead : ℕ) (k : Key) (fs : List F) → led lead (key_text k, tuple_of fs) ≡ head lead k ++ (opened 123 fs ++ 125 ∷ [])
 unfolding value_bytes tuple_of

@@ -2,15 +2,12 @@
 pub mod Bytes
 pub mod Names
 pub mod Proper
-pub mod Worths
-pub mod Watching
-pub mod Listing
 pub mod Replying
-pub mod Stopping
 pub mod Messages
 pub mod Grammar
 -- What the fields of a line are, field by field.
 pub mod Led
+pub mod Pieces
 -- What a session says: one entry more, the lines that show the output, and harts that leave.
 pub mod Saying
 pub mod Telling

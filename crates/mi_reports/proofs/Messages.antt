@@ -97,17 +97,7 @@ condition_bytes number e =
 
 kind_bytes : (k : ElfKind) → are_bytes (kind_name k) ≡ true
 kind_bytes elf.Short = refl
-kind_bytes elf.Magic = refl
-kind_bytes elf.Class = refl
-kind_bytes elf.Order = refl
-kind_bytes elf.Kind = refl
-kind_bytes elf.Machine = refl
-kind_bytes elf.Flags = refl
-kind_bytes elf.Segment = refl
-kind_bytes elf.Section = refl
-kind_bytes elf.Text = refl
-kind_bytes elf.Entry = refl
-kind_bytes elf.Large = refl
+kind_bytes k = refl
 
 pub file_bytes : (f : ElfFault) → are_bytes (phrase_text phrase.BadFile ++ kind_name f.kind ++ phrase_text phrase.AtPlace ++ decimal f.place) ≡ true
 file_bytes f =

@@ -18,6 +18,7 @@ use Rattle.mi_text.specs.Numeral.{address_text, exit_code}
 use Rattle.mi_reports.specs.Fits.{text_fits, source_fits, frame_fits, frames_fit}
 use Rattle.mi_reports.specs.Frames.{source_fields, frame_rest, frame_fields, frame_field, stack_fields, stack_tree}
 use Rattle.mi_reports.specs.Breakpoints.{disposition}
+use Rattle.mi_reports.specs.Reasons.{signal_reason, hit_reason}
 use Rattle.mi_reports.specs.Text as entries
 use Rattle.mi_reports.proofs.Bytes.{decimal_bytes, address_bytes, exit_bytes}
 use Rattle.mi_reports.proofs.Names.{key_name, phrase_bytes}
@@ -109,21 +110,18 @@ unfolding entries.place_fields
 place_good h f fit =
     join (frame_field None f ∷ []) _ 16 (frame_good None f 16 refl refl fit) (says_good key.ThreadId (decimal (h + 1)) _ 16 refl (thread_bytes h) (value key.StoppedThreads _ [] 16 (one_good h) (none_good 16)))
 
-pub signal_good : (name meaning : Phrase) (h : ℕ) (f : ShownFrame) → frame_fits f ≡ true → Good (entries.signal_fields name meaning h f) 16
-unfolding entries.signal_fields
-signal_good name meaning h f fit =
+pub signal_good : (name meaning : Phrase) → Good (signal_reason name meaning) 16
+signal_good name meaning =
     says_good key.Reason (phrase_text phrase.SignalReceived) _ 16 refl (phrase_bytes phrase.SignalReceived)
-    (says_good key.SignalName (phrase_text name) _ 16 refl (phrase_bytes name) (says_good key.SignalMeaning (phrase_text meaning) (entries.place_fields h f) 16 refl (phrase_bytes meaning) (place_good h f fit)))
+    (says_good key.SignalName (phrase_text name) _ 16 refl (phrase_bytes name) (says_good key.SignalMeaning (phrase_text meaning) [] 16 refl (phrase_bytes meaning) (none_good 16)))
 
-pub end_good : (reason : Phrase) (h : ℕ) (f : ShownFrame) → frame_fits f ≡ true → Good (entries.end_fields reason h f) 16
-unfolding entries.end_fields
-end_good reason h f fit = says_good key.Reason (phrase_text reason) (entries.place_fields h f) 16 refl (phrase_bytes reason) (place_good h f fit)
+pub end_good : (reason : Phrase) → Good (says key.Reason (phrase_text reason) ∷ []) 16
+end_good reason = says_good key.Reason (phrase_text reason) [] 16 refl (phrase_bytes reason) (none_good 16)
 
-pub hit_good : (temporary : Bool) (number h : ℕ) (f : ShownFrame) → frame_fits f ≡ true → Good (entries.hit_fields temporary number h f) 16
-unfolding entries.hit_fields
-hit_good temporary number h f fit =
+pub hit_good : (temporary : Bool) (number : ℕ) → Good (hit_reason temporary number) 16
+hit_good temporary number =
     says_good key.Reason (phrase_text phrase.BreakpointHit) _ 16 refl (phrase_bytes phrase.BreakpointHit)
-    (says_good key.Disp (phrase_text (disposition temporary)) _ 16 refl (phrase_bytes (disposition temporary)) (says_good key.BkptNumber (decimal number) (entries.place_fields h f) 16 refl (decimal_bytes number) (place_good h f fit)))
+    (says_good key.Disp (phrase_text (disposition temporary)) _ 16 refl (phrase_bytes (disposition temporary)) (says_good key.BkptNumber (decimal number) [] 16 refl (decimal_bytes number) (none_good 16)))
 
 pub thread_good : (h : ℕ) → Good (entries.thread_fields h) 16
 unfolding entries.thread_fields

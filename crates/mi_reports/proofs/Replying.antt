@@ -1,6 +1,6 @@
 -- The fields of replies are proper.
 use Rattle.std.specs.Prelude.{map, length, ◌%◌, ◌^◌, nat_lt, decimal}
-use Rattle.std.proofs.Common.{◌≡◌, ℕ, ◌+◌, ◌-◌, List, [], ◌∷◌, ◌++◌, true, ◌&&◌, eqb, Option, Some, None, refl}
+use Rattle.std.proofs.Common.{◌≡◌, ℕ, ◌+◌, ◌-◌, List, [], ◌∷◌, ◌++◌, true, ◌&&◌, eqb, Option, Some, None, refl, Bool}
 use Rattle.dbg_model.specs.declared.frame.ShownFrame.{ShownFrame}
 use Rattle.dbg_model.specs.declared.breakpoint.Breakpoint.{Breakpoint}
 use Rattle.dbg_model.specs.declared.row.Row.{Row}
@@ -15,7 +15,7 @@ use Rattle.mi_commands.specs.declared.refusal.Fault.TheVariants as fault
 use Rattle.mi_commands.specs.declared.command.Format.{Format}
 use Rattle.mi_commands.specs.declared.command.Format.TheVariants.{Hexadecimal, Decimal}
 use Rattle.hex.specs.Hex.{encode_lower}
-use Rattle.mi_values.specs.Tree.{items_of}
+use Rattle.mi_values.specs.Tree.{items_of, Tree}
 use Rattle.mi_values.specs.FieldLists.{tuple_of, in_brackets}
 use Rattle.mi_values.specs.Testing.{are_bytes, is_proper, are_proper_items}
 use Rattle.mi_values.proofs.Testing.{both}
@@ -24,19 +24,75 @@ use Rattle.mi_reports.specs.declared.words.Phrase.TheVariants as phrase
 use Rattle.mi_reports.specs.Words.{key_text, says, says_some}
 use Rattle.mi_reports.specs.Phrases.{phrase_text}
 use Rattle.mi_text.specs.Numeral.{address_text, worth_text}
-use Rattle.mi_reports.specs.Fits.{text_fits, source_fits, place_fits, threads_fit, breakpoint_fits, row_fits, rows_fit, content_fits}
+use Rattle.mi_reports.specs.Fits.{text_fits, source_fits, place_fits, threads_fit, breakpoint_fits, row_fits, rows_fit, content_fits, variables_fit}
 use Rattle.mi_reports.specs.Frames.{source_fields, frame_field}
 use Rattle.mi_reports.specs.Breakpoints.{disposition, enabled, for_thread, ignored, front_fields, place_fields, term_fields, count_fields, breakpoint_fields, breakpoint_field}
 use Rattle.mi_reports.specs.Table.{row_field, table_fields}
 use Rattle.mi_reports.specs.Errors.{message, error_code, error_fields}
-use Rattle.mi_reports.specs.Replies.{state_fields, thread_fields, thread_tree, threads_fields, number_field, numbers_fields, names_field, value_text}
-use Rattle.mi_reports.specs.Replies.{register_fields, register_tree, registers_field, block_fields, memory_field, setting, done_fields}
-use Rattle.mi_reports.proofs.Bytes.{decimal_bytes, address_bytes, hex_bytes, joined_bytes}
+use Rattle.mi_reports.specs.Replies.{state_fields, thread_fields, thread_tree, threads_fields, number_field, numbers_fields, names_field, value_text, register_fields, register_tree, registers_field, block_fields, memory_field, setting, done_fields}
+use Rattle.mi_reports.proofs.Bytes.{decimal_bytes, address_bytes, hex_bytes, joined_bytes, signed_bytes, worth_bytes}
 use Rattle.mi_reports.proofs.Names.{phrase_bytes}
-use Rattle.mi_reports.proofs.Listing.{variables_good}
-use Rattle.mi_reports.proofs.Watching.{watch_good, listed_good}
-use Rattle.mi_reports.proofs.Worths.{signed_bytes, worth_bytes}
 use Rattle.mi_reports.proofs.Proper.{Good, none_good, join, value, says_good, some_good, tuple_good, brackets_good, source_good, frame_good, frames_good, pick}
+use Rattle.watch_points.specs.declared.watchpoint.Watch.{Watch}
+use Rattle.mi_reports.specs.Watches.{told_fields, watch_field, listed_fields, listed_field}
+use Rattle.dbg_model.specs.declared.variable.ShownVariable.{ShownVariable}
+use Rattle.dbg_model.specs.declared.variable.VariableValue.{VariableValue}
+use Rattle.dbg_model.specs.declared.variable.VariableValue.TheVariants as value_of
+use Rattle.mi_reports.specs.Variables.{argument_fields, shown_fields, shown_text, variable_fields, variable_tree, variables_field}
+
+-- ---- watches and variables
+
+told_good : (number : ℕ) (t : List ℕ) (d : ℕ) → nat_lt 0 d ≡ true → are_bytes t ≡ true → Good (told_fields number t) d
+unfolding told_fields
+told_good number t d l h = says_good key.Number (decimal number) _ d l (decimal_bytes number) (says_good key.Exp t [] d l h (none_good d))
+
+pub watch_good : (number : ℕ) (t : List ℕ) (fs : List (List ℕ × Tree)) → are_bytes t ≡ true → Good fs 16 → Good (watch_field number t ∷ fs) 16
+unfolding watch_field
+watch_good number t fs h g = value key.Wpt _ fs 16 (tuple_good (told_fields number t) 16 refl (told_good number t 15 refl h)) g
+
+listed_fields_good : (w : Watch) (d : ℕ) → nat_lt 0 d ≡ true → are_bytes w.text ≡ true → Good (listed_fields w) d
+unfolding listed_fields
+listed_fields_good w d l h =
+    says_good key.Number (decimal w.number) _ d l (decimal_bytes w.number)
+    (says_good key.Type (phrase_text phrase.WatchpointType) _ d l (phrase_bytes phrase.WatchpointType)
+    (says_good key.Disp (phrase_text phrase.Kept) _ d l (phrase_bytes phrase.Kept)
+    (says_good key.Enabled (phrase_text (enabled w.enabled)) _ d l (phrase_bytes (enabled w.enabled))
+    (says_good key.What w.text _ d l h (says_good key.Times (decimal w.times) [] d l (decimal_bytes w.times) (none_good d))))))
+
+listed_good : (w : Watch) (d : ℕ) → nat_lt 0 d ≡ true → nat_lt 0 (d - 1) ≡ true → are_bytes w.text ≡ true → Good (listed_field w ∷ []) d
+unfolding listed_field
+listed_good w d l m h = value key.Bkpt _ [] d (tuple_good (listed_fields w) d l (listed_fields_good w (d - 1) m h)) (none_good d)
+
+text_bytes : (v : VariableValue) → are_bytes (shown_text v) ≡ true
+text_bytes (value_of.Word word unsigned) = worth_bytes word unsigned
+text_bytes value_of.OptimizedOut = phrase_bytes phrase.OptimizedOut
+text_bytes value_of.NotRead = phrase_bytes phrase.TypeNotRead
+text_bytes (value_of.Unreadable addr) =
+    let head = phrase_text phrase.ErrorBegin ++ phrase_text phrase.Unreadable in
+    joined_bytes (head ++ address_text addr) (phrase_text phrase.ErrorEnd)
+    (joined_bytes head (address_text addr) (joined_bytes (phrase_text phrase.ErrorBegin) (phrase_text phrase.Unreadable) (phrase_bytes phrase.ErrorBegin) (phrase_bytes phrase.Unreadable)) (address_bytes addr))
+    (phrase_bytes phrase.ErrorEnd)
+
+argument_good : (b : Bool) → Good (argument_fields b) 14
+argument_good true = says_good key.Arg (decimal 1) [] 14 refl (decimal_bytes 1) (none_good 14)
+argument_good Bool.false = none_good 14
+
+shown_good : (v : Option VariableValue) → Good (shown_fields v) 14
+shown_good None = none_good 14
+shown_good (Some v) = says_good key.Value (shown_text v) [] 14 refl (text_bytes v) (none_good 14)
+
+variable_tree_good : (v : ShownVariable) → are_bytes v.name ≡ true → is_proper (variable_tree v) 15 ≡ true
+unfolding variable_tree variable_fields
+variable_tree_good v h =
+    tuple_good _ 15 refl (says_good key.Name v.name _ 14 refl h (join (argument_fields v.argument) (shown_fields v.value) 14 (argument_good v.argument) (shown_good v.value)))
+
+variable_trees_good : (vs : List ShownVariable) → variables_fit vs ≡ true → are_proper_items (items_of (map variable_tree vs)) 15 ≡ true
+variable_trees_good [] h = refl
+variable_trees_good (v ∷ vs) h = let p = both (are_bytes v.name) (variables_fit vs) h in rw (variable_tree_good v p.0, variable_trees_good vs p.1) refl
+
+variables_good : (vs : List ShownVariable) → variables_fit vs ≡ true → Good (variables_field vs ∷ []) 16
+unfolding variables_field
+variables_good vs h = value key.Variables _ [] 16 (variable_trees_good vs h) (none_good 16)
 
 -- ---- breakpoints
 
@@ -164,19 +220,8 @@ memory_good addr bytes = let block : is_proper (tuple_of (block_fields addr byte
 -- ---- the reply
 
 code_good : (r : Refused) → Good (error_code r) 16
-code_good refused.Long = none_good 16
-code_good refused.Syntax = none_good 16
-code_good refused.Cli = none_good 16
 code_good (refused.Faulty (fault.Undefined name)) = says_good key.Code (phrase_text phrase.UndefinedCommand) [] 16 refl (phrase_bytes phrase.UndefinedCommand) (none_good 16)
-code_good (refused.Faulty (fault.Parameters name)) = none_good 16
-code_good (refused.Faulty (fault.Number word)) = none_good 16
-code_good (refused.Faulty fault.Setting) = none_good 16
-code_good (refused.Faulty (fault.Location word thread)) = none_good 16
-code_good (refused.Hindered o) = none_good 16
-code_good (refused.UnknownName name) = none_good 16
-code_good (refused.UnknownLine file line) = none_good 16
-code_good (refused.FixedRegister name) = none_good 16
-code_good (refused.Unwatchable expression) = none_good 16
+code_good r = none_good 16
 
 pub error_good : (r : Refused) → are_bytes (message r) ≡ true → Good (error_fields r) 16
 unfolding error_fields
@@ -186,12 +231,9 @@ pub running_good : (t : ℕ) → Good (says key.ThreadId (decimal t) ∷ []) 16
 running_good t = says_good key.ThreadId (decimal t) [] 16 refl (decimal_bytes t) (none_good 16)
 
 pub done_good : (c : Content) → content_fits c ≡ true → Good (done_fields c) 16
-done_good content.Blank h = none_good 16
-done_good content.Done h = none_good 16
 done_good (content.Inserted b) h = breakpoint_good b 16 refl refl h
 done_good (content.Breakpoints rs) h = table_good rs h
 done_good (content.Watching number expression) h = watch_good number expression [] h (none_good 16)
-done_good (content.Running threads) h = none_good 16
 done_good (content.Selected thread) h = says_good key.NewThreadId (decimal thread) [] 16 refl (decimal_bytes thread) (none_good 16)
 done_good (content.Threads threads selected) h = threads_good threads selected h
 done_good (content.ThreadNumbers numbers selected) h = numbers_good numbers selected
@@ -204,5 +246,4 @@ done_good (content.Registers format registers) h = registers_good format registe
 done_good (content.Memory addr bytes) h = memory_good addr bytes
 done_good (content.Value word unsigned) h = says_good key.Value (worth_text word unsigned) [] 16 refl (worth_bytes word unsigned) (none_good 16)
 done_good (content.Setting v) h = says_good key.Value (phrase_text (setting v)) [] 16 refl (phrase_bytes (setting v)) (none_good 16)
-done_good content.Exit h = none_good 16
-done_good (content.Refused r) h = none_good 16
+done_good c h = none_good 16

@@ -5,7 +5,7 @@ use Rattle.std.specs.Option.{option_map}
 use mathlib.Core.List.{append-nil}
 use Rattle.std.proofs.lemmas.Bool.Decides.{nat_tests}
 use Rattle.dbg_model.specs.declared.entry.Entry.{Entry}
-use Rattle.dbg_model.specs.declared.entry.Entry.TheVariants.{Ran, Counted, Stopped, Left, Did, Poked}
+use Rattle.dbg_model.specs.declared.entry.Entry.TheVariants.{Ran}
 use Rattle.dbg_model.specs.declared.opening.Opening.{Opening}
 use Rattle.dbg_model.specs.State.{State}
 use Rattle.dbg_model.specs.Lawful.{one_out}
@@ -87,11 +87,7 @@ last_ran o front k n h false s is by = behind o front (Ran k n) h s by
 
 last_entry : (o : Opening) (front : List Entry) (e : Entry) (h : ℕ) (s : State) → CameBy o front e s → said_lines o (front ++ one_more e h) ≡ said_lines o (front ++ e ∷ []) ++ stream_lines (one_out o h s)
 last_entry o front (Ran k n) h s by = last_ran o front k n h (k == h) s refl by
-last_entry o front (Counted k) h s by = behind o front (Counted k) h s by
-last_entry o front (Stopped k why) h s by = behind o front (Stopped k why) h s by
-last_entry o front (Left k code) h s by = behind o front (Left k code) h s by
-last_entry o front (Did line) h s by = behind o front (Did line) h s by
-last_entry o front (Poked p) h s by = behind o front (Poked p) h s by
+last_entry o front e h s by = behind o front e h s by
 
 -- one more instruction says what it wrote
 pub said_lengthened : (o : Opening) (j : List Entry) (h : ℕ) (s : State) → Leaves o j s → said_lines o (lengthened j h) ≡ said_lines o j ++ stream_lines (one_out o h s)

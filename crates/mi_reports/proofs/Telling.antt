@@ -12,7 +12,7 @@ use Rattle.dbg_model.specs.declared.entry.Entry.{Entry}
 use Rattle.dbg_model.specs.declared.entry.Entry.TheVariants.{Ran, Counted, Stopped, Left, Did, Poked}
 use Rattle.dbg_model.specs.declared.entry.Poke.{Poke}
 use Rattle.dbg_model.specs.declared.entry.Poke.TheVariants as poke
-use Rattle.dbg_model.specs.declared.entry.Why.TheVariants.{Break, Watch, Stepped, Finished, Interrupted, Fault}
+use Rattle.dbg_model.specs.declared.entry.Why.TheVariants.{Break}
 use Rattle.dbg_model.specs.declared.opening.Opening.{Opening}
 use Rattle.dbg_model.specs.declared.frame.ShownFrame.{ShownFrame}
 use Rattle.dbg_model.specs.Sources.{sources_of}
@@ -78,25 +78,7 @@ running_shows (t ∷ ts) = running_shows ts
 content_shows : (token : List ℕ) (c : Content) → streamed (content_lines token c) ≡ []
 unfolding result_of
 content_shows token (content.Running threads) = running_shows threads
-content_shows token content.Blank = refl
-content_shows token content.Done = refl
-content_shows token content.Exit = refl
-content_shows token (content.Refused r) = refl
-content_shows token (content.Inserted b) = refl
-content_shows token (content.Breakpoints rs) = refl
-content_shows token (content.Watching number expression) = refl
-content_shows token (content.Selected thread) = refl
-content_shows token (content.Threads threads selected) = refl
-content_shows token (content.ThreadNumbers numbers selected) = refl
-content_shows token (content.Frames frames) = refl
-content_shows token (content.Depth depth) = refl
-content_shows token (content.Frame frame) = refl
-content_shows token (content.Variables vs) = refl
-content_shows token content.RegisterNames = refl
-content_shows token (content.Registers format registers) = refl
-content_shows token (content.Memory addr bytes) = refl
-content_shows token (content.Value word unsigned) = refl
-content_shows token (content.Setting v) = refl
+content_shows token c = refl
 
 -- what an instruction adds to the output
 answer_adds : (a : Answer) (o : Opening) (s t : State) (h : ℕ) (x : Hart) → stepped_by a s h x ≡ Some t → t.out ≡ s.out ++ answer_out a
@@ -153,11 +135,7 @@ entry_adds o s (Ran h n) t is = ran_adds o h s n t (enter_ran o h n s t is).1
 entry_adds o s (Counted h) t is = nothing s t [] (enter_plain o s (Counted h) t is) refl
 entry_adds o s (Stopped h (Break number error)) t is =
     nothing s t (entry_lines o s (Stopped h (Break number error))) (enter_plain o s (Stopped h (Break number error)) t is) (break_shows (is_temporary s.breaks number) number error h (frame_at (sources_of o.image) s.harts h))
-entry_adds o s (Stopped h (Watch f)) t is = nothing s t (entry_lines o s (Stopped h (Watch f))) (enter_plain o s (Stopped h (Watch f)) t is) refl
-entry_adds o s (Stopped h Stepped) t is = nothing s t (entry_lines o s (Stopped h Stepped)) (enter_plain o s (Stopped h Stepped) t is) refl
-entry_adds o s (Stopped h Finished) t is = nothing s t (entry_lines o s (Stopped h Finished)) (enter_plain o s (Stopped h Finished) t is) refl
-entry_adds o s (Stopped h Interrupted) t is = nothing s t (entry_lines o s (Stopped h Interrupted)) (enter_plain o s (Stopped h Interrupted) t is) refl
-entry_adds o s (Stopped h (Fault cause)) t is = nothing s t (entry_lines o s (Stopped h (Fault cause))) (enter_plain o s (Stopped h (Fault cause)) t is) refl
+entry_adds o s (Stopped h w) t is = nothing s t (entry_lines o s (Stopped h w)) (enter_plain o s (Stopped h w) t is) refl
 entry_adds o s (Left h code) t is =
     let all = all_gone (exited_at s.harts h (slice_get s.harts h)) in
     nothing s t (entry_lines o s (Left h code)) (enter_plain o s (Left h code) t is) (left_shows h all (code % 256))

@@ -1,12 +1,17 @@
 -- The fields of a line, each with the byte before it: a comma, or the bracket that they stand in. This project's own.
-use Rattle.std.specs.Prelude.{ℕ, List, [], ◌∷◌, ◌++◌}
+use Rattle.std.specs.Prelude.{◌≡◌, ℕ, Result, OnOk, List, [], ◌∷◌, ◌++◌}
 use Rattle.std.specs.List.{flat_map}
+use Rattle.mi_text.specs.Keeps.{Keeps}
 use Rattle.mi_values.specs.declared.sign.NoticeSign.{NoticeSign}
 use Rattle.mi_values.specs.Tree.{Tree}
 use Rattle.mi_values.specs.Spelling.{value_bytes}
 use Rattle.mi_values.specs.Record.{notice_byte}
 use Rattle.mi_reports.specs.declared.words.Key.{Key}
 use Rattle.mi_reports.specs.Words.{key_text}
+
+-- these bytes came behind the old ones; out of memory, some bytes at most
+abbrev pub Adds : {E : Type 0} → Result (Unit {0}) E → List ℕ → List ℕ → List ℕ → Type 0
+Adds result old new more = OnOk result (new ≡ old ++ more) × Keeps old new
 
 -- such a byte, a name and `=`
 unfoldable pub head : ℕ → Key → List ℕ

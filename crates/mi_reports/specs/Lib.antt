@@ -15,3 +15,5 @@ pub mod Said
 pub mod Refusals
 pub mod Led
 pub mod Fits
+pub mod Reasons
+pub mod Pieces

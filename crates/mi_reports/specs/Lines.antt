@@ -1,5 +1,5 @@
 -- The lines of an entry, by what it shows: the one table of them (GDB manual, "GDB/MI Async Records").
-use Rattle.std.specs.Prelude.{ℕ, ◌==◌, Bool, true, false, List, []}
+use Rattle.std.specs.Prelude.{◌==◌, Bool, true, false, List, []}
 use Rattle.dbg_model.specs.declared.entry.Entry.{Entry}
 use Rattle.dbg_model.specs.declared.entry.Entry.TheVariants.{Ran, Counted, Stopped, Left, Did, Poked}
 use Rattle.dbg_model.specs.declared.entry.Why.TheVariants.{Break, Watch, Stepped, Finished, Interrupted, Fault}

@@ -1,10 +1,9 @@
 // Breakpoints as they are listed.
-ghost use Rattle.std.specs.Prelude.{◌≡◌, ◌∷◌, [], ◌++◌, OnOk};
-ghost use Rattle.mi_text.specs.Keeps.{Keeps};
+ghost use Rattle.std.specs.Prelude.{◌≡◌, ◌∷◌, [], ◌++◌};
 ghost use Rattle.mi_reports.specs.declared.words.Key.TheVariants as keys;
 ghost use Rattle.mi_reports.specs.Words.{says};
 ghost use Rattle.mi_reports.specs.Phrases.{phrase_text};
-ghost use Rattle.mi_reports.specs.Led.{led, behind, opened};
+ghost use Rattle.mi_reports.specs.Led.{Adds, led, behind, opened};
 ghost use Rattle.mi_reports.specs.Breakpoints.{disposition, enabled, for_thread, ignored, front_fields, place_fields, term_fields, count_fields, breakpoint_fields, breakpoint_field};
 
 use crate::fields::{
@@ -34,10 +33,8 @@ pub fn enabled(on: bool) -> Phrase
     if on { Phrase::Yes } else { Phrase::No }
 }
 
-#[tactic(auto, using(std::proofs::lemmas::Grind::common_steps))]
 fn write_for_thread(into: &mut Vec<u8>, thread: Option<u32>) -> Result<(), AllocError>
-    ensures written { OnOk result (into.new.items ≡ into.old.items ++ behind (for_thread thread)) }
-    ensures kept { Keeps into.old.items into.new.items }
+    ensures { Adds result into.old.items into.new.items (behind (for_thread thread)) }
 {
     let Some(thread) = thread else {
         return Ok(());
@@ -45,10 +42,8 @@ fn write_for_thread(into: &mut Vec<u8>, thread: Option<u32>) -> Result<(), Alloc
     write_word(into, b',', Key::Thread, thread)
 }
 
-#[tactic(auto, using(std::proofs::lemmas::Grind::common_steps))]
 fn write_ignored(into: &mut Vec<u8>, ignore: u32) -> Result<(), AllocError>
-    ensures written { OnOk result (into.new.items ≡ into.old.items ++ behind (ignored ignore)) }
-    ensures kept { Keeps into.old.items into.new.items }
+    ensures { Adds result into.old.items into.new.items (behind (ignored ignore)) }
 {
     if ignore == 0 {
         return Ok(());
@@ -57,15 +52,13 @@ fn write_ignored(into: &mut Vec<u8>, ignore: u32) -> Result<(), AllocError>
 }
 
 /// Puts at the end what stands under a number, what becomes of it once it is hit, and whether it is enabled.
-#[tactic(auto, using(std::proofs::lemmas::Grind::common_steps))]
 pub fn write_kind(
     into: &mut Vec<u8>,
     kind: Phrase,
     after_hit: Phrase,
     status: Phrase,
 ) -> Result<(), AllocError>
-    ensures written { OnOk result (into.new.items ≡ into.old.items ++ behind (says keys.Type (phrase_text kind) ∷ says keys.Disp (phrase_text after_hit) ∷ says keys.Enabled (phrase_text status) ∷ [])) }
-    ensures kept { Keeps into.old.items into.new.items }
+    ensures { Adds result into.old.items into.new.items (behind (says keys.Type (phrase_text kind) ∷ says keys.Disp (phrase_text after_hit) ∷ says keys.Enabled (phrase_text status) ∷ [])) }
 {
     write_phrase(into, b',', Key::Type, kind)?;
     write_phrase(into, b',', Key::Disp, after_hit)?;
@@ -75,8 +68,7 @@ pub fn write_kind(
 // Whether it stays and is enabled, and where it stands.
 #[tactic(auto, using(std::proofs::lemmas::Grind::common_steps), unfolding(crate::specs::Breakpoints::front_fields))]
 fn write_front(into: &mut Vec<u8>, breakpoint: &Breakpoint) -> Result<(), AllocError>
-    ensures written { OnOk result (into.new.items ≡ into.old.items ++ behind (front_fields breakpoint.now)) }
-    ensures kept { Keeps into.old.items into.new.items }
+    ensures { Adds result into.old.items into.new.items (behind (front_fields breakpoint.now)) }
 {
     let after_hit = disposition(breakpoint.temporary);
     write_kind(
@@ -91,8 +83,7 @@ fn write_front(into: &mut Vec<u8>, breakpoint: &Breakpoint) -> Result<(), AllocE
 // The function and the line that it stands in.
 #[tactic(auto, using(std::proofs::lemmas::Grind::common_steps), unfolding(crate::specs::Breakpoints::place_fields))]
 fn write_place(into: &mut Vec<u8>, breakpoint: &Breakpoint) -> Result<(), AllocError>
-    ensures written { OnOk result (into.new.items ≡ into.old.items ++ behind (place_fields breakpoint.now)) }
-    ensures kept { Keeps into.old.items into.new.items }
+    ensures { Adds result into.old.items into.new.items (behind (place_fields breakpoint.now)) }
 {
     write_some(into, Key::Func, &breakpoint.function)?;
     write_source(into, &breakpoint.source)
@@ -101,8 +92,7 @@ fn write_place(into: &mut Vec<u8>, breakpoint: &Breakpoint) -> Result<(), AllocE
 // When it stops, and whom.
 #[tactic(auto, using(std::proofs::lemmas::Grind::common_steps), unfolding(crate::specs::Breakpoints::term_fields))]
 fn write_terms(into: &mut Vec<u8>, breakpoint: &Breakpoint) -> Result<(), AllocError>
-    ensures written { OnOk result (into.new.items ≡ into.old.items ++ behind (term_fields breakpoint.now)) }
-    ensures kept { Keeps into.old.items into.new.items }
+    ensures { Adds result into.old.items into.new.items (behind (term_fields breakpoint.now)) }
 {
     write_some(into, Key::Cond, &breakpoint.condition)?;
     write_for_thread(into, breakpoint.thread)
@@ -111,8 +101,7 @@ fn write_terms(into: &mut Vec<u8>, breakpoint: &Breakpoint) -> Result<(), AllocE
 // Its arrivals, how many more are only counted, and where it was asked for.
 #[tactic(auto, using(std::proofs::lemmas::Grind::common_steps), unfolding(crate::specs::Breakpoints::count_fields))]
 fn write_counts(into: &mut Vec<u8>, breakpoint: &Breakpoint) -> Result<(), AllocError>
-    ensures written { OnOk result (into.new.items ≡ into.old.items ++ behind (count_fields breakpoint.now)) }
-    ensures kept { Keeps into.old.items into.new.items }
+    ensures { Adds result into.old.items into.new.items (behind (count_fields breakpoint.now)) }
 {
     write_number(into, b',', Key::Times, breakpoint.times)?;
     write_ignored(into, breakpoint.ignore)?;
@@ -125,10 +114,8 @@ fn write_counts(into: &mut Vec<u8>, breakpoint: &Breakpoint) -> Result<(), Alloc
 }
 
 // What is left out where it has nothing to say, and the counts.
-#[tactic(auto, using(std::proofs::lemmas::Grind::common_steps))]
 fn write_rest(into: &mut Vec<u8>, breakpoint: &Breakpoint) -> Result<(), AllocError>
-    ensures written { OnOk result (into.new.items ≡ into.old.items ++ behind (place_fields breakpoint.now ++ (term_fields breakpoint.now ++ count_fields breakpoint.now))) }
-    ensures kept { Keeps into.old.items into.new.items }
+    ensures { Adds result into.old.items into.new.items (behind (place_fields breakpoint.now ++ (term_fields breakpoint.now ++ count_fields breakpoint.now))) }
 {
     write_place(into, breakpoint)?;
     write_terms(into, breakpoint)?;
@@ -138,8 +125,7 @@ fn write_rest(into: &mut Vec<u8>, breakpoint: &Breakpoint) -> Result<(), AllocEr
 // The fields of a breakpoint behind their bracket.
 #[tactic(auto, using(std::proofs::lemmas::Grind::common_steps), unfolding(crate::specs::Breakpoints::breakpoint_fields))]
 fn write_fields(into: &mut Vec<u8>, breakpoint: &Breakpoint) -> Result<(), AllocError>
-    ensures written { OnOk result (into.new.items ≡ into.old.items ++ opened 123 (breakpoint_fields breakpoint.now)) }
-    ensures kept { Keeps into.old.items into.new.items }
+    ensures { Adds result into.old.items into.new.items (opened 123 (breakpoint_fields breakpoint.now)) }
 {
     write_word(into, b'{', Key::Number, breakpoint.number)?;
     write_front(into, breakpoint)?;
@@ -153,8 +139,7 @@ pub fn write_breakpoint(
     lead: u8,
     breakpoint: &Breakpoint,
 ) -> Result<(), AllocError>
-    ensures written { OnOk result (into.new.items ≡ into.old.items ++ led lead (breakpoint_field breakpoint.now)) }
-    ensures kept { Keeps into.old.items into.new.items }
+    ensures { Adds result into.old.items into.new.items (led lead (breakpoint_field breakpoint.now)) }
 {
     write_head(into, lead, Key::Bkpt)?;
     write_fields(into, breakpoint)?;

@@ -1,9 +1,9 @@
 // The line of a condition whose value can't be had.
 ghost use Rattle.std.specs.Prelude.{◌≡◌, ◌++◌, OnOk};
-ghost use Rattle.mi_text.specs.Keeps.{Keeps};
 ghost use Rattle.mi_values.specs.Records.{lines_bytes};
 ghost use Rattle.mi_reports.specs.Errors.{condition_error, condition_message};
 ghost use Rattle.mi_reports.specs.Text.{condition_lines};
+ghost use Rattle.mi_reports.specs.Led.{Adds};
 
 use crate::lines::write_stream;
 use crate::texts::{push, push_at, push_counted};
@@ -34,14 +34,12 @@ fn push_message(into: &mut Vec<u8>, number: u32, error: CondError) -> Result<(),
 }
 
 /// Puts the line of the condition of that breakpoint at the end; none where it had a value.
-#[tactic(auto, using(std::proofs::lemmas::Grind::common_steps))]
 pub fn write_condition(
     into: &mut Vec<u8>,
     number: u32,
     error: Option<CondError>,
 ) -> Result<(), AllocError>
-    ensures written { OnOk result (into.new.items ≡ into.old.items ++ lines_bytes (condition_lines number error)) }
-    ensures kept { Keeps into.old.items into.new.items }
+    ensures { Adds result into.old.items into.new.items (lines_bytes (condition_lines number error)) }
 {
     let Some(error) = error else {
         return Ok(());

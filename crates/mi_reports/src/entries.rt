@@ -1,10 +1,10 @@
 // What is reported, and its lines.
 ghost use Rattle.std.specs.Prelude.{◌≡◌, ◌++◌, ◌↔◌, take, IsOk, OnOk, OnErr, true};
-ghost use Rattle.mi_text.specs.Keeps.{Keeps};
 ghost use Rattle.mi_values.specs.Records.{lines_bytes, AreLines};
 ghost use Rattle.mi_reports.specs.Lines.{lines_of, may_show};
 ghost use Rattle.mi_reports.specs.Refusals.{file_fields, refusal_lines, usage_fields};
 ghost use Rattle.mi_reports.specs.Text.{opening_lines};
+ghost use Rattle.mi_reports.specs.Led.{Adds};
 
 use crate::exits::{write_left, write_opening, write_output};
 use crate::known::known_shown;
@@ -18,8 +18,7 @@ use std::alloc::AllocError;
 
 fn write_entry(into: &mut Vec<u8>, entry: &Entry, shown: &Shown) -> Result<(), AllocError>
     requires { may_show entry.now shown.now ≡ true }
-    ensures written { OnOk result (into.new.items ≡ into.old.items ++ lines_bytes (lines_of entry.now shown.now)) }
-    ensures kept { Keeps into.old.items into.new.items }
+    ensures { Adds result into.old.items into.new.items (lines_bytes (lines_of entry.now shown.now)) }
 {
     match (entry, shown) {
         (Entry::Ran { .. }, Shown::Wrote { bytes }) => write_output(into, bytes.as_slice()),

@@ -1,8 +1,7 @@
 // Why a line is refused.
 ghost use Rattle.std.specs.Prelude.{◌≡◌, ◌++◌, decimal, OnOk};
-ghost use Rattle.mi_text.specs.Keeps.{Keeps};
 ghost use Rattle.mi_reports.specs.declared.words.Phrase.TheVariants as phrases;
-ghost use Rattle.mi_reports.specs.Led.{behind};
+ghost use Rattle.mi_reports.specs.Led.{Adds, behind};
 ghost use Rattle.mi_reports.specs.Phrases.{phrase_text};
 ghost use Rattle.mi_reports.specs.Errors.{fault_message, expression_message, obstacle_message, message, error_code, error_fields};
 
@@ -91,10 +90,8 @@ fn push_message(into: &mut Vec<u8>, refused: &Refused) -> Result<(), AllocError>
 }
 
 // An operation that isn't known has a code.
-#[tactic(auto, using(std::proofs::lemmas::Grind::common_steps))]
 fn write_code(into: &mut Vec<u8>, refused: &Refused) -> Result<(), AllocError>
-    ensures written { OnOk result (into.new.items ≡ into.old.items ++ behind (error_code refused.now)) }
-    ensures kept { Keeps into.old.items into.new.items }
+    ensures { Adds result into.old.items into.new.items (behind (error_code refused.now)) }
 {
     match refused {
         Refused::Faulty(Fault::Undefined(_)) => {
@@ -107,8 +104,7 @@ fn write_code(into: &mut Vec<u8>, refused: &Refused) -> Result<(), AllocError>
 /// Puts the fields of the error that is answered to a line that is refused at the end.
 #[tactic(auto, using(std::proofs::lemmas::Grind::common_steps), unfolding(crate::specs::Errors::error_fields))]
 pub fn write_error(into: &mut Vec<u8>, refused: &Refused) -> Result<(), AllocError>
-    ensures written { OnOk result (into.new.items ≡ into.old.items ++ behind (error_fields refused.now)) }
-    ensures kept { Keeps into.old.items into.new.items }
+    ensures { Adds result into.old.items into.new.items (behind (error_fields refused.now)) }
 {
     let mut message = Vec::new(*into.allocator());
     push_message(&mut message, refused)?;

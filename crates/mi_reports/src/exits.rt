@@ -1,11 +1,9 @@
 // The lines of threads that begin and end, and of what the program writes.
-ghost use Rattle.std.specs.Prelude.{◌≡◌, ◌++◌, OnOk};
-ghost use Rattle.mi_text.specs.Keeps.{Keeps};
 ghost use Rattle.mi_text.specs.Numeral.{exit_code};
 ghost use Rattle.mi_values.specs.Record.{line_bytes};
 ghost use Rattle.mi_values.specs.Records.{lines_bytes};
 ghost use Rattle.mi_reports.specs.declared.words.Key.TheVariants as keys;
-ghost use Rattle.mi_reports.specs.Led.{led, behind};
+ghost use Rattle.mi_reports.specs.Led.{Adds, led, behind};
 ghost use Rattle.mi_reports.specs.Words.{says};
 ghost use Rattle.mi_reports.specs.Text.{thread_line, created_lines, opening_lines, exit_fields, stopped_line, left_lines, stream_lines};
 
@@ -19,8 +17,7 @@ use std::alloc::AllocError;
 // A thread was created, or has exited.
 #[tactic(auto, using(std::proofs::lemmas::Grind::common_steps, crate::proofs::Led::notice_led), unfolding(crate::specs::Text::thread_line, crate::specs::Text::thread_fields))]
 fn write_thread(into: &mut Vec<u8>, class: Key, hart: u32) -> Result<(), AllocError>
-    ensures written { OnOk result (into.new.items ≡ into.old.items ++ line_bytes (thread_line class hart)) }
-    ensures kept { Keeps into.old.items into.new.items }
+    ensures { Adds result into.old.items into.new.items (line_bytes (thread_line class hart)) }
 {
     write_begun(into, NoticeSign::Notify, class)?;
     write_number(into, b',', Key::Id, u64::from(hart) + 1)?;
@@ -28,10 +25,8 @@ fn write_thread(into: &mut Vec<u8>, class: Key, hart: u32) -> Result<(), AllocEr
     write_byte(into, b'\n')
 }
 
-#[tactic(auto, using(std::proofs::lemmas::Grind::common_steps))]
 fn write_created(into: &mut Vec<u8>, harts: u32) -> Result<(), AllocError>
-    ensures written { OnOk result (into.new.items ≡ into.old.items ++ lines_bytes (created_lines harts)) }
-    ensures kept { Keeps into.old.items into.new.items }
+    ensures { Adds result into.old.items into.new.items (lines_bytes (created_lines harts)) }
 {
     for hart in 0..harts {
         write_thread(into, Key::ThreadCreated, hart)?;
@@ -40,18 +35,15 @@ fn write_created(into: &mut Vec<u8>, harts: u32) -> Result<(), AllocError>
 }
 
 /// Puts the lines that a session of so many harts opens with at the end.
-#[tactic(auto, using(std::proofs::lemmas::Grind::common_steps))]
 pub fn write_opening(into: &mut Vec<u8>, harts: u32) -> Result<(), AllocError>
-    ensures written { OnOk result (into.new.items ≡ into.old.items ++ lines_bytes (opening_lines harts)) }
-    ensures kept { Keeps into.old.items into.new.items }
+    ensures { Adds result into.old.items into.new.items (lines_bytes (opening_lines harts)) }
 {
     write_created(into, harts)?;
     write_prompt(into)
 }
 
 fn write_code(into: &mut Vec<u8>, code: u8) -> Result<(), AllocError>
-    ensures written { OnOk result (into.new.items ≡ into.old.items ++ led 44 (says keys.ExitCode (exit_code code))) }
-    ensures kept { Keeps into.old.items into.new.items }
+    ensures { Adds result into.old.items into.new.items (led 44 (says keys.ExitCode (exit_code code))) }
 {
     let mut text = Vec::new(*into.allocator());
     write_exit_code(code, &mut text)?;
@@ -60,8 +52,7 @@ fn write_code(into: &mut Vec<u8>, code: u8) -> Result<(), AllocError>
 
 #[tactic(auto, using(std::proofs::lemmas::Grind::common_steps), unfolding(crate::specs::Text::exit_fields))]
 fn write_exit_fields(into: &mut Vec<u8>, code: u8) -> Result<(), AllocError>
-    ensures written { OnOk result (into.new.items ≡ into.old.items ++ behind (exit_fields code)) }
-    ensures kept { Keeps into.old.items into.new.items }
+    ensures { Adds result into.old.items into.new.items (behind (exit_fields code)) }
 {
     if code == 0 {
         return write_phrase(into, b',', Key::Reason, Phrase::ExitedNormally);
@@ -73,8 +64,7 @@ fn write_exit_fields(into: &mut Vec<u8>, code: u8) -> Result<(), AllocError>
 // The program has exited.
 #[tactic(auto, using(std::proofs::lemmas::Grind::common_steps, crate::proofs::Led::notice_led), unfolding(crate::specs::Text::stopped_line))]
 fn write_exit(into: &mut Vec<u8>, code: u8) -> Result<(), AllocError>
-    ensures written { OnOk result (into.new.items ≡ into.old.items ++ line_bytes (stopped_line (exit_fields code))) }
-    ensures kept { Keeps into.old.items into.new.items }
+    ensures { Adds result into.old.items into.new.items (line_bytes (stopped_line (exit_fields code))) }
 {
     write_begun(into, NoticeSign::Exec, Key::Stopped)?;
     write_exit_fields(into, code)?;
@@ -82,10 +72,8 @@ fn write_exit(into: &mut Vec<u8>, code: u8) -> Result<(), AllocError>
 }
 
 /// Puts the line of a hart that has exited with a code, and that of the program where it was the last live one, at the end.
-#[tactic(auto, using(std::proofs::lemmas::Grind::common_steps))]
 pub fn write_left(into: &mut Vec<u8>, hart: u32, code: u32, last: bool) -> Result<(), AllocError>
-    ensures written { OnOk result (into.new.items ≡ into.old.items ++ lines_bytes (left_lines hart code last)) }
-    ensures kept { Keeps into.old.items into.new.items }
+    ensures { Adds result into.old.items into.new.items (lines_bytes (left_lines hart code last)) }
 {
     write_thread(into, Key::ThreadExited, hart)?;
     if last {
@@ -95,10 +83,8 @@ pub fn write_left(into: &mut Vec<u8>, hart: u32, code: u32, last: bool) -> Resul
 }
 
 /// Puts the line of the bytes that an instruction wrote at the end; none where it wrote none.
-#[tactic(auto, using(std::proofs::lemmas::Grind::common_steps))]
 pub fn write_output(into: &mut Vec<u8>, bytes: &[u8]) -> Result<(), AllocError>
-    ensures written { OnOk result (into.new.items ≡ into.old.items ++ lines_bytes (stream_lines bytes.now)) }
-    ensures kept { Keeps into.old.items into.new.items }
+    ensures { Adds result into.old.items into.new.items (lines_bytes (stream_lines bytes.now)) }
 {
     if bytes.is_empty() {
         return Ok(());

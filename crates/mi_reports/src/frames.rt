@@ -1,7 +1,6 @@
 // Frames and lines of the source.
-ghost use Rattle.std.specs.Prelude.{◌≡◌, ◌+◌, ◌^◌, ◌<◌, ◌++◌, length, OnOk};
-ghost use Rattle.mi_text.specs.Keeps.{Keeps};
-ghost use Rattle.mi_reports.specs.Led.{led, behind, opened};
+ghost use Rattle.std.specs.Prelude.{◌+◌, ◌^◌, ◌<◌, length};
+ghost use Rattle.mi_reports.specs.Led.{Adds, led, behind, opened};
 ghost use Rattle.mi_reports.specs.declared.words.Key.TheVariants as keys;
 ghost use Rattle.mi_reports.specs.Words.{key_text};
 ghost use Rattle.mi_reports.specs.Frames.{source_fields, frame_rest, frame_fields, frame_field, stack_fields, stack_tree};
@@ -15,10 +14,8 @@ use dbg_model::{ShownFrame, SourceLine};
 use std::alloc::AllocError;
 
 /// Puts the fields of a line of a source file at the end; none where none is known.
-#[tactic(auto, using(std::proofs::lemmas::Grind::common_steps))]
 pub fn write_source(into: &mut Vec<u8>, source: &Option<SourceLine>) -> Result<(), AllocError>
-    ensures written { OnOk result (into.new.items ≡ into.old.items ++ behind (source_fields source.now)) }
-    ensures kept { Keeps into.old.items into.new.items }
+    ensures { Adds result into.old.items into.new.items (behind (source_fields source.now)) }
 {
     let Some(source) = source else {
         return Ok(());
@@ -27,11 +24,10 @@ pub fn write_source(into: &mut Vec<u8>, source: &Option<SourceLine>) -> Result<(
     write_word(into, b',', Key::Line, source.line)
 }
 
-// What stands behind the address.
+/// Puts what stands behind the address of a frame at the end.
 #[tactic(auto, using(std::proofs::lemmas::Grind::common_steps), unfolding(crate::specs::Frames::frame_rest))]
-fn write_rest(into: &mut Vec<u8>, frame: &ShownFrame) -> Result<(), AllocError>
-    ensures written { OnOk result (into.new.items ≡ into.old.items ++ behind (frame_rest frame.now)) }
-    ensures kept { Keeps into.old.items into.new.items }
+pub fn write_rest(into: &mut Vec<u8>, frame: &ShownFrame) -> Result<(), AllocError>
+    ensures { Adds result into.old.items into.new.items (behind (frame_rest frame.now)) }
 {
     write_some(into, Key::Func, &frame.function)?;
     write_empty(into, b',', Key::Args)?;
@@ -45,8 +41,7 @@ fn write_fields(
     level: Option<u64>,
     frame: &ShownFrame,
 ) -> Result<(), AllocError>
-    ensures written { OnOk result (into.new.items ≡ into.old.items ++ opened 123 (frame_fields level frame.now)) }
-    ensures kept { Keeps into.old.items into.new.items }
+    ensures { Adds result into.old.items into.new.items (opened 123 (frame_fields level frame.now)) }
 {
     match level {
         None => {
@@ -69,8 +64,7 @@ pub fn write_frame(
     level: Option<u64>,
     frame: &ShownFrame,
 ) -> Result<(), AllocError>
-    ensures written { OnOk result (into.new.items ≡ into.old.items ++ led lead (frame_field level frame.now)) }
-    ensures kept { Keeps into.old.items into.new.items }
+    ensures { Adds result into.old.items into.new.items (led lead (frame_field level frame.now)) }
 {
     write_head(into, lead, Key::Frame)?;
     write_fields(into, level, frame)?;
@@ -78,11 +72,9 @@ pub fn write_frame(
 }
 
 // Frames behind a first one, of which the first has this level.
-#[tactic(auto, using(std::proofs::lemmas::Grind::common_steps))]
 fn write_more(into: &mut Vec<u8>, level: u64, frames: &[ShownFrame]) -> Result<(), AllocError>
     requires { level + length frames.now < 2 ^ 64 }
-    ensures written { OnOk result (into.new.items ≡ into.old.items ++ behind (stack_fields level frames.now)) }
-    ensures kept { Keeps into.old.items into.new.items }
+    ensures { Adds result into.old.items into.new.items (behind (stack_fields level frames.now)) }
 {
     let [frame, rest @ ..] = frames else {
         return Ok(());
@@ -92,10 +84,8 @@ fn write_more(into: &mut Vec<u8>, level: u64, frames: &[ShownFrame]) -> Result<(
 }
 
 // The frames of a stack behind their bracket.
-#[tactic(auto, using(std::proofs::lemmas::Grind::common_steps))]
 fn write_frames(into: &mut Vec<u8>, frames: &[ShownFrame]) -> Result<(), AllocError>
-    ensures written { OnOk result (into.new.items ≡ into.old.items ++ opened 91 (stack_fields 0 frames.now)) }
-    ensures kept { Keeps into.old.items into.new.items }
+    ensures { Adds result into.old.items into.new.items (opened 91 (stack_fields 0 frames.now)) }
 {
     let [frame, rest @ ..] = frames else {
         return write_byte(into, b'[');
@@ -107,8 +97,7 @@ fn write_frames(into: &mut Vec<u8>, frames: &[ShownFrame]) -> Result<(), AllocEr
 /// Puts the frames of a stack, counted from 0, at the end as a field.
 #[tactic(auto, using(std::proofs::lemmas::Grind::common_steps, crate::proofs::Led::brackets_led))]
 pub fn write_stack(into: &mut Vec<u8>, lead: u8, frames: &[ShownFrame]) -> Result<(), AllocError>
-    ensures written { OnOk result (into.new.items ≡ into.old.items ++ led lead (key_text keys.Stack, stack_tree frames.now)) }
-    ensures kept { Keeps into.old.items into.new.items }
+    ensures { Adds result into.old.items into.new.items (led lead (key_text keys.Stack, stack_tree frames.now)) }
 {
     write_head(into, lead, Key::Stack)?;
     write_frames(into, frames)?;

@@ -1,7 +1,7 @@
 //! The lines that a session puts: those of each entry of its journal, which `report` writes, of its opening, and of its refusals.
 //!
 //! Each is written as text. The definitions are trees of the grammar of `mi_values`, whose text is what is written.
-#![tactic(auto)]
+#![tactic(auto, using(std::proofs::lemmas::Grind::common_steps))]
 
 mod breakpoints;
 mod conditions;

@@ -1,8 +1,7 @@
 // The lines around fields.
-ghost use Rattle.std.specs.Prelude.{◌≡◌, ◌++◌, OnOk};
-ghost use Rattle.mi_text.specs.Keeps.{Keeps};
+ghost use Rattle.std.specs.Prelude.{◌≡◌};
 ghost use Rattle.mi_values.specs.Record.{line_bytes, prompt, stream, notice_byte, stream_byte};
-ghost use Rattle.mi_reports.specs.Led.{begun, answered};
+ghost use Rattle.mi_reports.specs.Led.{Adds, begun, answered};
 
 use crate::fields::write_byte;
 use crate::words::{Key, name};
@@ -36,8 +35,7 @@ fn stream_byte(sign: StreamSign) -> u8
 /// Puts the sign of a notice and its class at the end.
 #[tactic(auto, unfolding(crate::specs::Led::begun))]
 pub fn write_begun(into: &mut Vec<u8>, sign: NoticeSign, class: Key) -> Result<(), AllocError>
-    ensures written { OnOk result (into.new.items ≡ into.old.items ++ begun sign class) }
-    ensures kept { Keeps into.old.items into.new.items }
+    ensures { Adds result into.old.items into.new.items (begun sign class) }
 {
     into.reserve(ROOM)?;
     write_byte(into, notice_byte(sign))?;
@@ -47,8 +45,7 @@ pub fn write_begun(into: &mut Vec<u8>, sign: NoticeSign, class: Key) -> Result<(
 /// Puts a token, `^` and the class of an answer at the end.
 #[tactic(auto, using(std::proofs::lemmas::Grind::common_steps), unfolding(crate::specs::Led::answered))]
 pub fn write_answered(into: &mut Vec<u8>, token: &Token, class: Key) -> Result<(), AllocError>
-    ensures written { OnOk result (into.new.items ≡ into.old.items ++ answered token.now class) }
-    ensures kept { Keeps into.old.items into.new.items }
+    ensures { Adds result into.old.items into.new.items (answered token.now class) }
 {
     into.extend_from_slice(token.as_bytes())?;
     write_byte(into, b'^')?;
@@ -58,8 +55,7 @@ pub fn write_answered(into: &mut Vec<u8>, token: &Token, class: Key) -> Result<(
 /// Puts the line of a text at the end.
 #[tactic(auto, using(std::proofs::lemmas::Grind::common_steps), unfolding(mi_values::specs::Record::line_bytes))]
 pub fn write_stream(into: &mut Vec<u8>, sign: StreamSign, bytes: &[u8]) -> Result<(), AllocError>
-    ensures written { OnOk result (into.new.items ≡ into.old.items ++ line_bytes (stream sign bytes.now)) }
-    ensures kept { Keeps into.old.items into.new.items }
+    ensures { Adds result into.old.items into.new.items (line_bytes (stream sign bytes.now)) }
 {
     write_byte(into, stream_byte(sign))?;
     write_c_string(bytes, into)?;
@@ -69,8 +65,7 @@ pub fn write_stream(into: &mut Vec<u8>, sign: StreamSign, bytes: &[u8]) -> Resul
 /// Puts the line of the prompt at the end.
 #[tactic(auto, using(std::proofs::lemmas::Grind::common_steps), unfolding(mi_values::specs::Record::line_bytes))]
 pub fn write_prompt(into: &mut Vec<u8>) -> Result<(), AllocError>
-    ensures written { OnOk result (into.new.items ≡ into.old.items ++ line_bytes prompt) }
-    ensures kept { Keeps into.old.items into.new.items }
+    ensures { Adds result into.old.items into.new.items (line_bytes prompt) }
 {
     into.extend_from_slice(b"(gdb)\n")
 }

@@ -1,12 +1,12 @@
 // The one line of a session that isn't begun.
 ghost use Rattle.std.specs.Prelude.{◌≡◌, ◌∷◌, [], ◌++◌, decimal, OnOk};
-ghost use Rattle.mi_text.specs.Keeps.{Keeps};
 ghost use Rattle.mi_values.specs.Records.{lines_bytes};
 ghost use Rattle.mi_reports.specs.declared.words.Key.TheVariants as keys;
 ghost use Rattle.mi_reports.specs.declared.words.Phrase.TheVariants as phrases;
 ghost use Rattle.mi_reports.specs.Phrases.{phrase_text};
 ghost use Rattle.mi_reports.specs.Words.{says};
 ghost use Rattle.mi_reports.specs.Refusals.{kind_name, file_fields, usage_fields, refusal_lines};
+ghost use Rattle.mi_reports.specs.Led.{Adds};
 
 use crate::fields::{write_byte, write_text};
 use crate::lines::write_answered;
@@ -38,8 +38,7 @@ fn kind_name(kind: ElfKind) -> &'static str
 // Puts the line of an error with this message at the end.
 #[tactic(auto, using(std::proofs::lemmas::Grind::common_steps, crate::proofs::Led::result_led))]
 fn write_refusal(into: &mut Vec<u8>, message: &[u8]) -> Result<(), AllocError>
-    ensures written { OnOk result (into.new.items ≡ into.old.items ++ lines_bytes (refusal_lines (says keys.Message message.now ∷ []))) }
-    ensures kept { Keeps into.old.items into.new.items }
+    ensures { Adds result into.old.items into.new.items (lines_bytes (refusal_lines (says keys.Message message.now ∷ []))) }
 {
     write_answered(into, &Token::none(), Key::Error)?;
     write_text(into, b',', Key::Message, message)?;
@@ -58,8 +57,7 @@ fn push_fault(into: &mut Vec<u8>, fault: ElfFault) -> Result<(), AllocError>
 /// Puts the line of a file that is refused at the end.
 #[tactic(auto, unfolding(crate::specs::Refusals::file_fields))]
 pub fn write_bad_file(into: &mut Vec<u8>, fault: ElfFault) -> Result<(), AllocError>
-    ensures written { OnOk result (into.new.items ≡ into.old.items ++ lines_bytes (refusal_lines (file_fields fault))) }
-    ensures kept { Keeps into.old.items into.new.items }
+    ensures { Adds result into.old.items into.new.items (lines_bytes (refusal_lines (file_fields fault))) }
 {
     let mut message = Vec::new(*into.allocator());
     push_fault(&mut message, fault)?;
@@ -69,8 +67,7 @@ pub fn write_bad_file(into: &mut Vec<u8>, fault: ElfFault) -> Result<(), AllocEr
 /// Puts the line of words of the command line that are refused at the end.
 #[tactic(auto, unfolding(crate::specs::Refusals::usage_fields))]
 pub fn write_usage(into: &mut Vec<u8>) -> Result<(), AllocError>
-    ensures written { OnOk result (into.new.items ≡ into.old.items ++ lines_bytes (refusal_lines usage_fields)) }
-    ensures kept { Keeps into.old.items into.new.items }
+    ensures { Adds result into.old.items into.new.items (lines_bytes (refusal_lines usage_fields)) }
 {
     write_refusal(into, wording(Phrase::Usage))
 }

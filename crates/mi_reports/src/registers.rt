@@ -1,12 +1,11 @@
 // Registers and memory.
-ghost use Rattle.std.specs.Prelude.{◌≡◌, ◌∷◌, [], ◌++◌, map, OnOk};
-ghost use Rattle.mi_text.specs.Keeps.{Keeps};
+ghost use Rattle.std.specs.Prelude.{◌∷◌, [], map};
 ghost use Rattle.mi_values.specs.Tree.{text, items, items_of};
 ghost use Rattle.hex.specs.Hex.{encode_lower};
 ghost use Rattle.mi_text.specs.Numeral.{address_text};
 ghost use Rattle.mi_reports.specs.declared.words.Key.TheVariants as keys;
 ghost use Rattle.mi_reports.specs.Words.{key_text, says};
-ghost use Rattle.mi_reports.specs.Led.{led, opened, item_led, items_behind, items_opened};
+ghost use Rattle.mi_reports.specs.Led.{Adds, led, opened, item_led, items_behind, items_opened};
 ghost use Rattle.mi_reports.specs.Replies.{value_text, names_field, register_fields, register_tree, registers_field, block_fields, memory_field};
 
 use crate::fields::{write_address, write_byte, write_head, write_text, write_word, write_worth};
@@ -26,18 +25,15 @@ const NAMES: [&str; 33] = [
 // A name in a list.
 #[tactic(auto, using(std::proofs::lemmas::Grind::common_steps, crate::proofs::Led::text_item_led))]
 fn write_name(into: &mut Vec<u8>, lead: u8, name: &'static str) -> Result<(), AllocError>
-    ensures written { OnOk result (into.new.items ≡ into.old.items ++ item_led lead (text name.now)) }
-    ensures kept { Keeps into.old.items into.new.items }
+    ensures { Adds result into.old.items into.new.items (item_led lead (text name.now)) }
 {
     write_byte(into, lead)?;
     write_c_string(name.as_bytes(), into)
 }
 
 // Names behind a first one.
-#[tactic(auto, using(std::proofs::lemmas::Grind::common_steps))]
 fn write_more_names(into: &mut Vec<u8>, names: &[&'static str]) -> Result<(), AllocError>
-    ensures written { OnOk result (into.new.items ≡ into.old.items ++ items_behind (map (λ n. text n.now) names.now)) }
-    ensures kept { Keeps into.old.items into.new.items }
+    ensures { Adds result into.old.items into.new.items (items_behind (map (λ n. text n.now) names.now)) }
 {
     for name in names {
         write_name(into, b',', *name)?;
@@ -46,10 +42,8 @@ fn write_more_names(into: &mut Vec<u8>, names: &[&'static str]) -> Result<(), Al
 }
 
 // Names behind their bracket.
-#[tactic(auto, using(std::proofs::lemmas::Grind::common_steps))]
 fn write_name_list(into: &mut Vec<u8>, names: &[&'static str]) -> Result<(), AllocError>
-    ensures written { OnOk result (into.new.items ≡ into.old.items ++ items_opened 91 (map (λ n. text n.now) names.now)) }
-    ensures kept { Keeps into.old.items into.new.items }
+    ensures { Adds result into.old.items into.new.items (items_opened 91 (map (λ n. text n.now) names.now)) }
 {
     let [name, rest @ ..] = names else {
         return write_byte(into, b'[');
@@ -60,8 +54,7 @@ fn write_name_list(into: &mut Vec<u8>, names: &[&'static str]) -> Result<(), All
 
 #[tactic(auto, using(std::proofs::lemmas::Grind::common_steps, crate::proofs::Led::list_led))]
 fn write_these(into: &mut Vec<u8>, names: &[&'static str]) -> Result<(), AllocError>
-    ensures written { OnOk result (into.new.items ≡ into.old.items ++ led 44 (key_text keys.RegisterNames, items (items_of (map (λ n. text n.now) names.now)))) }
-    ensures kept { Keeps into.old.items into.new.items }
+    ensures { Adds result into.old.items into.new.items (led 44 (key_text keys.RegisterNames, items (items_of (map (λ n. text n.now) names.now)))) }
 {
     write_head(into, b',', Key::RegisterNames)?;
     write_name_list(into, names)?;
@@ -71,15 +64,13 @@ fn write_these(into: &mut Vec<u8>, names: &[&'static str]) -> Result<(), AllocEr
 /// Puts the names of all registers at the end.
 #[tactic(auto, unfolding(crate::specs::Replies::names_field))]
 pub fn write_names(into: &mut Vec<u8>) -> Result<(), AllocError>
-    ensures written { OnOk result (into.new.items ≡ into.old.items ++ led 44 names_field) }
-    ensures kept { Keeps into.old.items into.new.items }
+    ensures { Adds result into.old.items into.new.items (led 44 names_field) }
 {
     write_these(into, &NAMES)
 }
 
 fn write_value(into: &mut Vec<u8>, format: Format, value: u32) -> Result<(), AllocError>
-    ensures written { OnOk result (into.new.items ≡ into.old.items ++ led 44 (says keys.Value (value_text format value))) }
-    ensures kept { Keeps into.old.items into.new.items }
+    ensures { Adds result into.old.items into.new.items (led 44 (says keys.Value (value_text format value))) }
 {
     match format {
         Format::Hexadecimal => write_address(into, b',', Key::Value, value),
@@ -90,8 +81,7 @@ fn write_value(into: &mut Vec<u8>, format: Format, value: u32) -> Result<(), All
 // The fields of a register behind their bracket.
 #[tactic(auto, using(std::proofs::lemmas::Grind::common_steps), unfolding(crate::specs::Replies::register_fields))]
 fn write_fields(into: &mut Vec<u8>, format: Format, register: Register) -> Result<(), AllocError>
-    ensures written { OnOk result (into.new.items ≡ into.old.items ++ opened 123 (register_fields format register)) }
-    ensures kept { Keeps into.old.items into.new.items }
+    ensures { Adds result into.old.items into.new.items (opened 123 (register_fields format register)) }
 {
     write_word(into, b'{', Key::Number, register.number)?;
     write_value(into, format, register.value)
@@ -104,8 +94,7 @@ fn write_register(
     format: Format,
     register: Register,
 ) -> Result<(), AllocError>
-    ensures written { OnOk result (into.new.items ≡ into.old.items ++ item_led lead (register_tree format register)) }
-    ensures kept { Keeps into.old.items into.new.items }
+    ensures { Adds result into.old.items into.new.items (item_led lead (register_tree format register)) }
 {
     write_byte(into, lead)?;
     write_fields(into, format, register)?;
@@ -113,10 +102,8 @@ fn write_register(
 }
 
 // Registers behind a first one.
-#[tactic(auto, using(std::proofs::lemmas::Grind::common_steps))]
 fn write_more(into: &mut Vec<u8>, format: Format, registers: &[Register]) -> Result<(), AllocError>
-    ensures written { OnOk result (into.new.items ≡ into.old.items ++ items_behind (map (register_tree format) registers.now)) }
-    ensures kept { Keeps into.old.items into.new.items }
+    ensures { Adds result into.old.items into.new.items (items_behind (map (register_tree format) registers.now)) }
 {
     for register in registers {
         write_register(into, b',', format, *register)?;
@@ -125,10 +112,8 @@ fn write_more(into: &mut Vec<u8>, format: Format, registers: &[Register]) -> Res
 }
 
 // Registers behind their bracket.
-#[tactic(auto, using(std::proofs::lemmas::Grind::common_steps))]
 fn write_list(into: &mut Vec<u8>, format: Format, registers: &[Register]) -> Result<(), AllocError>
-    ensures written { OnOk result (into.new.items ≡ into.old.items ++ items_opened 91 (map (register_tree format) registers.now)) }
-    ensures kept { Keeps into.old.items into.new.items }
+    ensures { Adds result into.old.items into.new.items (items_opened 91 (map (register_tree format) registers.now)) }
 {
     let [register, rest @ ..] = registers else {
         return write_byte(into, b'[');
@@ -144,8 +129,7 @@ pub fn write_registers(
     format: Format,
     registers: &[Register],
 ) -> Result<(), AllocError>
-    ensures written { OnOk result (into.new.items ≡ into.old.items ++ led 44 (registers_field format registers.now)) }
-    ensures kept { Keeps into.old.items into.new.items }
+    ensures { Adds result into.old.items into.new.items (led 44 (registers_field format registers.now)) }
 {
     write_head(into, b',', Key::RegisterValues)?;
     write_list(into, format, registers)?;
@@ -153,20 +137,16 @@ pub fn write_registers(
 }
 
 // Bytes, two hexadecimal digits each.
-#[tactic(auto, using(std::proofs::lemmas::Grind::common_steps))]
 fn write_contents(into: &mut Vec<u8>, bytes: &[u8]) -> Result<(), AllocError>
-    ensures written { OnOk result (into.new.items ≡ into.old.items ++ led 44 (says keys.Contents (encode_lower bytes.now))) }
-    ensures kept { Keeps into.old.items into.new.items }
+    ensures { Adds result into.old.items into.new.items (led 44 (says keys.Contents (encode_lower bytes.now))) }
 {
     let contents = hex::encode(*into.allocator(), bytes)?;
     write_text(into, b',', Key::Contents, contents.as_bytes())
 }
 
 // Where bytes begin, and where they end, behind their bracket.
-#[tactic(auto, using(std::proofs::lemmas::Grind::common_steps))]
 fn write_span(into: &mut Vec<u8>, address: u32, end: u32) -> Result<(), AllocError>
-    ensures written { OnOk result (into.new.items ≡ into.old.items ++ opened 123 (says keys.Begin (address_text address) ∷ says keys.Offset (address_text 0) ∷ says keys.End (address_text end) ∷ [])) }
-    ensures kept { Keeps into.old.items into.new.items }
+    ensures { Adds result into.old.items into.new.items (opened 123 (says keys.Begin (address_text address) ∷ says keys.Offset (address_text 0) ∷ says keys.End (address_text end) ∷ [])) }
 {
     write_address(into, b'{', Key::Begin, address)?;
     write_address(into, b',', Key::Offset, 0)?;
@@ -176,8 +156,7 @@ fn write_span(into: &mut Vec<u8>, address: u32, end: u32) -> Result<(), AllocErr
 // The fields of the bytes from an address on behind their bracket.
 #[tactic(auto, using(std::proofs::lemmas::Grind::common_steps), unfolding(crate::specs::Replies::block_fields))]
 fn write_block(into: &mut Vec<u8>, address: u32, bytes: &[u8]) -> Result<(), AllocError>
-    ensures written { OnOk result (into.new.items ≡ into.old.items ++ opened 123 (block_fields address bytes.now)) }
-    ensures kept { Keeps into.old.items into.new.items }
+    ensures { Adds result into.old.items into.new.items (opened 123 (block_fields address bytes.now)) }
 {
     let end = ((u64::from(address) + bytes.len() as u64) % 0x1_0000_0000) as u32;
     write_span(into, address, end)?;
@@ -187,8 +166,7 @@ fn write_block(into: &mut Vec<u8>, address: u32, bytes: &[u8]) -> Result<(), All
 /// Puts the bytes from an address on at the end.
 #[tactic(auto, using(std::proofs::lemmas::Grind::common_steps, crate::proofs::Led::one_tuple_led), unfolding(crate::specs::Replies::memory_field))]
 pub fn write_memory(into: &mut Vec<u8>, address: u32, bytes: &[u8]) -> Result<(), AllocError>
-    ensures written { OnOk result (into.new.items ≡ into.old.items ++ led 44 (memory_field address bytes.now)) }
-    ensures kept { Keeps into.old.items into.new.items }
+    ensures { Adds result into.old.items into.new.items (led 44 (memory_field address bytes.now)) }
 {
     write_head(into, b',', Key::Memory)?;
     write_byte(into, b'[')?;

@@ -1,18 +1,18 @@
 // The lines of replies.
-ghost use Rattle.std.specs.Prelude.{◌≡◌, [], ◌++◌, map, OnOk};
-ghost use Rattle.mi_text.specs.Keeps.{Keeps};
+ghost use Rattle.std.specs.Prelude.{◌≡◌, [], map};
 ghost use Rattle.mi_values.specs.FieldLists.{result_of};
 ghost use Rattle.mi_values.specs.Record.{line_bytes};
 ghost use Rattle.mi_values.specs.Records.{lines_bytes};
-ghost use Rattle.mi_reports.specs.Led.{behind};
+ghost use Rattle.mi_reports.specs.Led.{Adds, behind};
+ghost use Rattle.mi_reports.specs.declared.words.Key.TheVariants as keys;
 ghost use Rattle.mi_reports.specs.Words.{key_text};
 ghost use Rattle.mi_reports.specs.Replies.{running_line, setting, content_lines, done_fields, done_lines, reply_lines};
 
 use crate::breakpoints::write_breakpoint;
 use crate::errors::write_error;
-use crate::fields::{write_byte, write_phrase, write_word, write_worth};
+use crate::fields::{put, write_byte, write_phrase, write_word, write_worth};
 use crate::frames::{write_frame, write_stack};
-use crate::lines::{write_answered, write_begun, write_prompt};
+use crate::lines::{write_answered, write_prompt};
 use crate::registers::{write_memory, write_names, write_registers};
 use crate::table::write_table;
 use crate::threads::{write_numbers, write_threads};
@@ -20,26 +20,23 @@ use crate::variables::write_variables;
 use crate::watches::write_watch;
 use crate::words::{Key, Phrase};
 use dbg_model::{Content, Refused, Reply};
+use itoa::Buffer;
 use mi_commands::Displaced;
-use mi_values::{NoticeSign, Token};
+use mi_values::Token;
 use std::alloc::AllocError;
 
 // A thread goes on.
-#[tactic(auto, using(std::proofs::lemmas::Grind::common_steps, crate::proofs::Led::notice_led), unfolding(crate::specs::Replies::running_line))]
 fn write_running_line(into: &mut Vec<u8>, thread: u32) -> Result<(), AllocError>
-    ensures written { OnOk result (into.new.items ≡ into.old.items ++ line_bytes (running_line thread)) }
-    ensures kept { Keeps into.old.items into.new.items }
+    ensures { Adds result into.old.items into.new.items (line_bytes (running_line thread)) }
 {
-    write_begun(into, NoticeSign::Exec, Key::Running)?;
-    write_word(into, b',', Key::ThreadId, thread)?;
-    write_byte(into, b'\n')
+    let mut buffer = Buffer::new();
+    let number = buffer.format(u64::from(thread)).as_bytes();
+    put(into, "*running,thread-id=\"", number, "\"\n")
 }
 
 // The lines of threads that go on.
-#[tactic(auto, using(std::proofs::lemmas::Grind::common_steps))]
 fn write_running(into: &mut Vec<u8>, threads: &[u32]) -> Result<(), AllocError>
-    ensures written { OnOk result (into.new.items ≡ into.old.items ++ lines_bytes (map running_line threads.now)) }
-    ensures kept { Keeps into.old.items into.new.items }
+    ensures { Adds result into.old.items into.new.items (lines_bytes (map running_line threads.now)) }
 {
     for thread in threads {
         write_running_line(into, *thread)?;
@@ -47,30 +44,37 @@ fn write_running(into: &mut Vec<u8>, threads: &[u32]) -> Result<(), AllocError>
     Ok(())
 }
 
-// The line of an answer of a class alone.
-#[tactic(auto, using(std::proofs::lemmas::Grind::common_steps, crate::proofs::Led::result_led))]
-fn write_bare(into: &mut Vec<u8>, token: &Token, class: Key) -> Result<(), AllocError>
-    ensures written { OnOk result (into.new.items ≡ into.old.items ++ line_bytes (result_of token.now (key_text class) [])) }
-    ensures kept { Keeps into.old.items into.new.items }
+#[tactic(auto, using(crate::proofs::Pieces::going_bytes))]
+fn write_goes(into: &mut Vec<u8>, token: &Token) -> Result<(), AllocError>
+    ensures { Adds result into.old.items into.new.items (line_bytes (result_of token.now (key_text keys.Running) [])) }
 {
-    write_answered(into, token, class)?;
-    write_byte(into, b'\n')
+    put(into, "", token.as_bytes(), "^running\n")
 }
 
-#[tactic(auto, using(std::proofs::lemmas::Grind::common_steps))]
-fn write_going_on(into: &mut Vec<u8>, token: &Token, threads: &[u32]) -> Result<(), AllocError>
-    ensures written { OnOk result (into.new.items ≡ into.old.items ++ lines_bytes (content_lines token.now (Content.Running threads.now))) }
-    ensures kept { Keeps into.old.items into.new.items }
+#[tactic(auto, using(crate::proofs::Pieces::exit_bytes))]
+fn write_exit(into: &mut Vec<u8>, token: &Token) -> Result<(), AllocError>
+    ensures { Adds result into.old.items into.new.items (lines_bytes (content_lines token.now Content.Exit)) }
 {
-    write_bare(into, token, Key::Running)?;
+    put(into, "", token.as_bytes(), "^exit\n")
+}
+
+fn write_plain(into: &mut Vec<u8>, token: &Token) -> Result<(), AllocError>
+    ensures { Adds result into.old.items into.new.items (lines_bytes (content_lines token.now Content.Done)) }
+{
+    put(into, "", token.as_bytes(), "^done\n(gdb)\n")
+}
+
+fn write_going_on(into: &mut Vec<u8>, token: &Token, threads: &[u32]) -> Result<(), AllocError>
+    ensures { Adds result into.old.items into.new.items (lines_bytes (content_lines token.now (Content.Running threads.now))) }
+{
+    write_goes(into, token)?;
     write_running(into, threads)?;
     write_prompt(into)
 }
 
 #[tactic(auto, using(std::proofs::lemmas::Grind::common_steps, crate::proofs::Led::result_led))]
 fn write_refused(into: &mut Vec<u8>, token: &Token, refused: &Refused) -> Result<(), AllocError>
-    ensures written { OnOk result (into.new.items ≡ into.old.items ++ lines_bytes (content_lines token.now (Content.Refused refused.now))) }
-    ensures kept { Keeps into.old.items into.new.items }
+    ensures { Adds result into.old.items into.new.items (lines_bytes (content_lines token.now (Content.Refused refused.now))) }
 {
     write_answered(into, token, Key::Error)?;
     write_error(into, refused)?;
@@ -89,10 +93,8 @@ fn setting(value: Displaced) -> Phrase
 }
 
 // The fields of what was done.
-#[tactic(auto, using(std::proofs::lemmas::Grind::common_steps))]
 fn write_done(into: &mut Vec<u8>, content: &Content) -> Result<(), AllocError>
-    ensures written { OnOk result (into.new.items ≡ into.old.items ++ behind (done_fields content.now)) }
-    ensures kept { Keeps into.old.items into.new.items }
+    ensures { Adds result into.old.items into.new.items (behind (done_fields content.now)) }
 {
     match content {
         Content::Inserted(breakpoint) => write_breakpoint(into, b',', breakpoint),
@@ -128,8 +130,7 @@ fn write_done(into: &mut Vec<u8>, content: &Content) -> Result<(), AllocError>
 
 #[tactic(auto, using(std::proofs::lemmas::Grind::common_steps, crate::proofs::Led::result_led))]
 fn write_answer(into: &mut Vec<u8>, token: &Token, content: &Content) -> Result<(), AllocError>
-    ensures written { OnOk result (into.new.items ≡ into.old.items ++ lines_bytes (done_lines token.now (done_fields content.now))) }
-    ensures kept { Keeps into.old.items into.new.items }
+    ensures { Adds result into.old.items into.new.items (lines_bytes (done_lines token.now (done_fields content.now))) }
 {
     write_answered(into, token, Key::Done)?;
     write_done(into, content)?;
@@ -137,15 +138,14 @@ fn write_answer(into: &mut Vec<u8>, token: &Token, content: &Content) -> Result<
     write_prompt(into)
 }
 
-#[tactic(auto, using(std::proofs::lemmas::Grind::common_steps))]
 fn write_content(into: &mut Vec<u8>, token: &Token, content: &Content) -> Result<(), AllocError>
-    ensures written { OnOk result (into.new.items ≡ into.old.items ++ lines_bytes (content_lines token.now content.now)) }
-    ensures kept { Keeps into.old.items into.new.items }
+    ensures { Adds result into.old.items into.new.items (lines_bytes (content_lines token.now content.now)) }
 {
     match content {
         Content::Blank => write_prompt(into),
         Content::Running(threads) => write_going_on(into, token, threads.as_slice()),
-        Content::Exit => write_bare(into, token, Key::Exit),
+        Content::Exit => write_exit(into, token),
+        Content::Done => write_plain(into, token),
         Content::Refused(refused) => write_refused(into, token, refused),
         _ => write_answer(into, token, content),
     }
@@ -153,8 +153,7 @@ fn write_content(into: &mut Vec<u8>, token: &Token, content: &Content) -> Result
 
 /// Puts the lines of a reply at the end.
 pub fn write_reply(into: &mut Vec<u8>, reply: &Reply) -> Result<(), AllocError>
-    ensures written { OnOk result (into.new.items ≡ into.old.items ++ lines_bytes (reply_lines reply.now)) }
-    ensures kept { Keeps into.old.items into.new.items }
+    ensures { Adds result into.old.items into.new.items (lines_bytes (reply_lines reply.now)) }
 {
     write_content(into, &reply.token, &reply.content)
 }

@@ -1,10 +1,9 @@
 // The table of breakpoints and watches.
-ghost use Rattle.std.specs.Prelude.{◌≡◌, ◌++◌, map, OnOk};
-ghost use Rattle.mi_text.specs.Keeps.{Keeps};
+ghost use Rattle.std.specs.Prelude.{map};
 ghost use Rattle.mi_values.specs.FieldLists.{tuple_of, in_brackets};
 ghost use Rattle.mi_reports.specs.declared.words.Key.TheVariants as keys;
 ghost use Rattle.mi_reports.specs.Words.{key_text};
-ghost use Rattle.mi_reports.specs.Led.{led, behind, opened};
+ghost use Rattle.mi_reports.specs.Led.{Adds, led, behind, opened};
 ghost use Rattle.mi_reports.specs.Table.{row_field, table_fields};
 
 use crate::breakpoints::write_breakpoint;
@@ -15,8 +14,7 @@ use dbg_model::Row;
 use std::alloc::AllocError;
 
 fn write_row(into: &mut Vec<u8>, lead: u8, row: &Row) -> Result<(), AllocError>
-    ensures written { OnOk result (into.new.items ≡ into.old.items ++ led lead (row_field row.now)) }
-    ensures kept { Keeps into.old.items into.new.items }
+    ensures { Adds result into.old.items into.new.items (led lead (row_field row.now)) }
 {
     match row {
         Row::Breakpoint(breakpoint) => write_breakpoint(into, lead, breakpoint),
@@ -25,10 +23,8 @@ fn write_row(into: &mut Vec<u8>, lead: u8, row: &Row) -> Result<(), AllocError>
 }
 
 // Rows behind a first one.
-#[tactic(auto, using(std::proofs::lemmas::Grind::common_steps))]
 fn write_more(into: &mut Vec<u8>, rows: &[Row]) -> Result<(), AllocError>
-    ensures written { OnOk result (into.new.items ≡ into.old.items ++ behind (map row_field rows.now)) }
-    ensures kept { Keeps into.old.items into.new.items }
+    ensures { Adds result into.old.items into.new.items (behind (map row_field rows.now)) }
 {
     for row in rows {
         write_row(into, b',', row)?;
@@ -37,10 +33,8 @@ fn write_more(into: &mut Vec<u8>, rows: &[Row]) -> Result<(), AllocError>
 }
 
 // Rows behind their bracket.
-#[tactic(auto, using(std::proofs::lemmas::Grind::common_steps))]
 fn write_rows(into: &mut Vec<u8>, rows: &[Row]) -> Result<(), AllocError>
-    ensures written { OnOk result (into.new.items ≡ into.old.items ++ opened 91 (map row_field rows.now)) }
-    ensures kept { Keeps into.old.items into.new.items }
+    ensures { Adds result into.old.items into.new.items (opened 91 (map row_field rows.now)) }
 {
     let [row, rest @ ..] = rows else {
         return write_byte(into, b'[');
@@ -51,8 +45,7 @@ fn write_rows(into: &mut Vec<u8>, rows: &[Row]) -> Result<(), AllocError>
 
 #[tactic(auto, using(std::proofs::lemmas::Grind::common_steps, crate::proofs::Led::brackets_led))]
 fn write_body(into: &mut Vec<u8>, rows: &[Row]) -> Result<(), AllocError>
-    ensures written { OnOk result (into.new.items ≡ into.old.items ++ led 44 (key_text keys.Body, in_brackets (map row_field rows.now))) }
-    ensures kept { Keeps into.old.items into.new.items }
+    ensures { Adds result into.old.items into.new.items (led 44 (key_text keys.Body, in_brackets (map row_field rows.now))) }
 {
     write_head(into, b',', Key::Body)?;
     write_rows(into, rows)?;
@@ -62,8 +55,7 @@ fn write_body(into: &mut Vec<u8>, rows: &[Row]) -> Result<(), AllocError>
 /// Puts the table of breakpoints and watches at the end.
 #[tactic(auto, using(std::proofs::lemmas::Grind::common_steps, crate::proofs::Led::tuple_led), unfolding(crate::specs::Table::table_fields))]
 pub fn write_table(into: &mut Vec<u8>, rows: &[Row]) -> Result<(), AllocError>
-    ensures written { OnOk result (into.new.items ≡ into.old.items ++ led 44 (key_text keys.Table, tuple_of (table_fields rows.now))) }
-    ensures kept { Keeps into.old.items into.new.items }
+    ensures { Adds result into.old.items into.new.items (led 44 (key_text keys.Table, tuple_of (table_fields rows.now))) }
 {
     write_head(into, b',', Key::Table)?;
     write_number(into, b'{', Key::Rows, rows.len() as u64)?;

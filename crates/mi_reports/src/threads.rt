@@ -1,10 +1,9 @@
 // Threads as they are listed.
-ghost use Rattle.std.specs.Prelude.{◌≡◌, ◌-◌, ◌++◌, map, decimal, IfOk, OnOk};
+ghost use Rattle.std.specs.Prelude.{◌≡◌, ◌-◌, ◌++◌, map, decimal, IfOk};
 ghost use Rattle.mi_reports.specs.declared.words.Phrase.TheVariants as phrases;
 ghost use Rattle.mi_reports.specs.declared.words.Key.TheVariants as keys;
-ghost use Rattle.mi_text.specs.Keeps.{Keeps};
 ghost use Rattle.mi_values.specs.FieldLists.{tuple_of};
-ghost use Rattle.mi_reports.specs.Led.{led, behind, opened, item_led, items_behind, items_opened};
+ghost use Rattle.mi_reports.specs.Led.{Adds, led, behind, opened, item_led, items_behind, items_opened};
 ghost use Rattle.mi_reports.specs.Words.{key_text};
 ghost use Rattle.mi_reports.specs.Phrases.{phrase_text};
 ghost use Rattle.mi_reports.specs.Replies.{state_fields, thread_fields, thread_tree, threads_fields, number_field, numbers_fields};
@@ -26,10 +25,8 @@ fn hart_name(alloc: Global, number: u32) -> Result<Vec<u8>, AllocError>
 }
 
 // What a thread is at.
-#[tactic(auto, using(std::proofs::lemmas::Grind::common_steps))]
 fn write_state(into: &mut Vec<u8>, stopped_at: &Option<ShownFrame>) -> Result<(), AllocError>
-    ensures written { OnOk result (into.new.items ≡ into.old.items ++ behind (state_fields stopped_at.now)) }
-    ensures kept { Keeps into.old.items into.new.items }
+    ensures { Adds result into.old.items into.new.items (behind (state_fields stopped_at.now)) }
 {
     match stopped_at {
         None => write_phrase(into, b',', Key::State, Phrase::Running),
@@ -42,8 +39,7 @@ fn write_state(into: &mut Vec<u8>, stopped_at: &Option<ShownFrame>) -> Result<()
 
 #[tactic(auto, using(std::proofs::lemmas::Grind::common_steps), unfolding(crate::specs::Replies::thread_fields))]
 fn write_fields(into: &mut Vec<u8>, thread: &Thread) -> Result<(), AllocError>
-    ensures written { OnOk result (into.new.items ≡ into.old.items ++ opened 123 (thread_fields thread.now)) }
-    ensures kept { Keeps into.old.items into.new.items }
+    ensures { Adds result into.old.items into.new.items (opened 123 (thread_fields thread.now)) }
 {
     let name = hart_name(*into.allocator(), thread.number)?;
     write_word(into, b'{', Key::Id, thread.number)?;
@@ -53,8 +49,7 @@ fn write_fields(into: &mut Vec<u8>, thread: &Thread) -> Result<(), AllocError>
 
 #[tactic(auto, using(std::proofs::lemmas::Grind::common_steps, crate::proofs::Led::tuple_item_led), unfolding(crate::specs::Replies::thread_tree))]
 fn write_thread(into: &mut Vec<u8>, lead: u8, thread: &Thread) -> Result<(), AllocError>
-    ensures written { OnOk result (into.new.items ≡ into.old.items ++ item_led lead (thread_tree thread.now)) }
-    ensures kept { Keeps into.old.items into.new.items }
+    ensures { Adds result into.old.items into.new.items (item_led lead (thread_tree thread.now)) }
 {
     write_byte(into, lead)?;
     write_fields(into, thread)?;
@@ -62,10 +57,8 @@ fn write_thread(into: &mut Vec<u8>, lead: u8, thread: &Thread) -> Result<(), All
 }
 
 // Threads behind a first one.
-#[tactic(auto, using(std::proofs::lemmas::Grind::common_steps))]
 fn write_more(into: &mut Vec<u8>, threads: &[Thread]) -> Result<(), AllocError>
-    ensures written { OnOk result (into.new.items ≡ into.old.items ++ items_behind (map thread_tree threads.now)) }
-    ensures kept { Keeps into.old.items into.new.items }
+    ensures { Adds result into.old.items into.new.items (items_behind (map thread_tree threads.now)) }
 {
     for thread in threads {
         write_thread(into, b',', thread)?;
@@ -74,10 +67,8 @@ fn write_more(into: &mut Vec<u8>, threads: &[Thread]) -> Result<(), AllocError>
 }
 
 // Threads behind their bracket.
-#[tactic(auto, using(std::proofs::lemmas::Grind::common_steps))]
 fn write_list(into: &mut Vec<u8>, threads: &[Thread]) -> Result<(), AllocError>
-    ensures written { OnOk result (into.new.items ≡ into.old.items ++ items_opened 91 (map thread_tree threads.now)) }
-    ensures kept { Keeps into.old.items into.new.items }
+    ensures { Adds result into.old.items into.new.items (items_opened 91 (map thread_tree threads.now)) }
 {
     let [thread, rest @ ..] = threads else {
         return write_byte(into, b'[');
@@ -93,8 +84,7 @@ pub fn write_threads(
     threads: &[Thread],
     selected: u32,
 ) -> Result<(), AllocError>
-    ensures written { OnOk result (into.new.items ≡ into.old.items ++ behind (threads_fields threads.now selected)) }
-    ensures kept { Keeps into.old.items into.new.items }
+    ensures { Adds result into.old.items into.new.items (behind (threads_fields threads.now selected)) }
 {
     write_head(into, b',', Key::Threads)?;
     write_list(into, threads)?;
@@ -103,10 +93,8 @@ pub fn write_threads(
 }
 
 // The numbers of threads behind a first one.
-#[tactic(auto, using(std::proofs::lemmas::Grind::common_steps))]
 fn write_more_numbers(into: &mut Vec<u8>, numbers: &[u32]) -> Result<(), AllocError>
-    ensures written { OnOk result (into.new.items ≡ into.old.items ++ behind (map number_field numbers.now)) }
-    ensures kept { Keeps into.old.items into.new.items }
+    ensures { Adds result into.old.items into.new.items (behind (map number_field numbers.now)) }
 {
     for number in numbers {
         write_word(into, b',', Key::ThreadId, *number)?;
@@ -115,10 +103,8 @@ fn write_more_numbers(into: &mut Vec<u8>, numbers: &[u32]) -> Result<(), AllocEr
 }
 
 // The numbers of threads behind their bracket.
-#[tactic(auto, using(std::proofs::lemmas::Grind::common_steps))]
 fn write_number_list(into: &mut Vec<u8>, numbers: &[u32]) -> Result<(), AllocError>
-    ensures written { OnOk result (into.new.items ≡ into.old.items ++ opened 123 (map number_field numbers.now)) }
-    ensures kept { Keeps into.old.items into.new.items }
+    ensures { Adds result into.old.items into.new.items (opened 123 (map number_field numbers.now)) }
 {
     let [number, rest @ ..] = numbers else {
         return write_byte(into, b'{');
@@ -130,8 +116,7 @@ fn write_number_list(into: &mut Vec<u8>, numbers: &[u32]) -> Result<(), AllocErr
 // The numbers of threads as a field.
 #[tactic(auto, using(std::proofs::lemmas::Grind::common_steps, crate::proofs::Led::tuple_led))]
 fn write_ids(into: &mut Vec<u8>, numbers: &[u32]) -> Result<(), AllocError>
-    ensures written { OnOk result (into.new.items ≡ into.old.items ++ led 44 (key_text keys.ThreadIds, tuple_of (map number_field numbers.now))) }
-    ensures kept { Keeps into.old.items into.new.items }
+    ensures { Adds result into.old.items into.new.items (led 44 (key_text keys.ThreadIds, tuple_of (map number_field numbers.now))) }
 {
     write_head(into, b',', Key::ThreadIds)?;
     write_number_list(into, numbers)?;
@@ -141,8 +126,7 @@ fn write_ids(into: &mut Vec<u8>, numbers: &[u32]) -> Result<(), AllocError>
 /// Puts the numbers of threads, which of them is selected, and how many there are, at the end.
 #[tactic(auto, using(std::proofs::lemmas::Grind::common_steps), unfolding(crate::specs::Replies::numbers_fields))]
 pub fn write_numbers(into: &mut Vec<u8>, numbers: &[u32], selected: u32) -> Result<(), AllocError>
-    ensures written { OnOk result (into.new.items ≡ into.old.items ++ behind (numbers_fields numbers.now selected)) }
-    ensures kept { Keeps into.old.items into.new.items }
+    ensures { Adds result into.old.items into.new.items (behind (numbers_fields numbers.now selected)) }
 {
     write_ids(into, numbers)?;
     write_word(into, b',', Key::CurrentThreadId, selected)?;

@@ -1,7 +1,6 @@
 // Variables as they are listed.
 ghost use Rattle.std.specs.Prelude.{◌≡◌, ◌++◌, map, OnOk};
-ghost use Rattle.mi_text.specs.Keeps.{Keeps};
-ghost use Rattle.mi_reports.specs.Led.{led, behind, opened, item_led, items_behind, items_opened};
+ghost use Rattle.mi_reports.specs.Led.{Adds, led, behind, opened, item_led, items_behind, items_opened};
 ghost use Rattle.mi_reports.specs.Variables.{argument_fields, shown_fields, shown_text, variable_fields, variable_tree, variables_field};
 
 use crate::fields::{write_byte, write_head, write_text, write_word};
@@ -27,10 +26,8 @@ fn push_text(into: &mut Vec<u8>, value: VariableValue) -> Result<(), AllocError>
     }
 }
 
-#[tactic(auto, using(std::proofs::lemmas::Grind::common_steps))]
 fn write_value(into: &mut Vec<u8>, value: Option<VariableValue>) -> Result<(), AllocError>
-    ensures written { OnOk result (into.new.items ≡ into.old.items ++ behind (shown_fields value)) }
-    ensures kept { Keeps into.old.items into.new.items }
+    ensures { Adds result into.old.items into.new.items (behind (shown_fields value)) }
 {
     let Some(value) = value else {
         return Ok(());
@@ -41,10 +38,8 @@ fn write_value(into: &mut Vec<u8>, value: Option<VariableValue>) -> Result<(), A
 }
 
 // That a variable is a parameter.
-#[tactic(auto, using(std::proofs::lemmas::Grind::common_steps))]
 fn write_argument(into: &mut Vec<u8>, argument: bool) -> Result<(), AllocError>
-    ensures written { OnOk result (into.new.items ≡ into.old.items ++ behind (argument_fields argument)) }
-    ensures kept { Keeps into.old.items into.new.items }
+    ensures { Adds result into.old.items into.new.items (behind (argument_fields argument)) }
 {
     if argument {
         write_word(into, b',', Key::Arg, 1)
@@ -56,8 +51,7 @@ fn write_argument(into: &mut Vec<u8>, argument: bool) -> Result<(), AllocError>
 // The fields of a variable behind their bracket.
 #[tactic(auto, using(std::proofs::lemmas::Grind::common_steps), unfolding(crate::specs::Variables::variable_fields))]
 fn write_fields(into: &mut Vec<u8>, variable: &ShownVariable) -> Result<(), AllocError>
-    ensures written { OnOk result (into.new.items ≡ into.old.items ++ opened 123 (variable_fields variable.now)) }
-    ensures kept { Keeps into.old.items into.new.items }
+    ensures { Adds result into.old.items into.new.items (opened 123 (variable_fields variable.now)) }
 {
     write_text(into, b'{', Key::Name, variable.name.as_slice())?;
     write_argument(into, variable.argument)?;
@@ -66,8 +60,7 @@ fn write_fields(into: &mut Vec<u8>, variable: &ShownVariable) -> Result<(), Allo
 
 #[tactic(auto, using(std::proofs::lemmas::Grind::common_steps, crate::proofs::Led::tuple_item_led), unfolding(crate::specs::Variables::variable_tree))]
 fn write_variable(into: &mut Vec<u8>, lead: u8, variable: &ShownVariable) -> Result<(), AllocError>
-    ensures written { OnOk result (into.new.items ≡ into.old.items ++ item_led lead (variable_tree variable.now)) }
-    ensures kept { Keeps into.old.items into.new.items }
+    ensures { Adds result into.old.items into.new.items (item_led lead (variable_tree variable.now)) }
 {
     write_byte(into, lead)?;
     write_fields(into, variable)?;
@@ -75,10 +68,8 @@ fn write_variable(into: &mut Vec<u8>, lead: u8, variable: &ShownVariable) -> Res
 }
 
 // Variables behind a first one.
-#[tactic(auto, using(std::proofs::lemmas::Grind::common_steps))]
 fn write_more(into: &mut Vec<u8>, variables: &[ShownVariable]) -> Result<(), AllocError>
-    ensures written { OnOk result (into.new.items ≡ into.old.items ++ items_behind (map variable_tree variables.now)) }
-    ensures kept { Keeps into.old.items into.new.items }
+    ensures { Adds result into.old.items into.new.items (items_behind (map variable_tree variables.now)) }
 {
     for variable in variables {
         write_variable(into, b',', variable)?;
@@ -87,10 +78,8 @@ fn write_more(into: &mut Vec<u8>, variables: &[ShownVariable]) -> Result<(), All
 }
 
 // Variables behind their bracket.
-#[tactic(auto, using(std::proofs::lemmas::Grind::common_steps))]
 fn write_list(into: &mut Vec<u8>, variables: &[ShownVariable]) -> Result<(), AllocError>
-    ensures written { OnOk result (into.new.items ≡ into.old.items ++ items_opened 91 (map variable_tree variables.now)) }
-    ensures kept { Keeps into.old.items into.new.items }
+    ensures { Adds result into.old.items into.new.items (items_opened 91 (map variable_tree variables.now)) }
 {
     let [variable, rest @ ..] = variables else {
         return write_byte(into, b'[');
@@ -102,8 +91,7 @@ fn write_list(into: &mut Vec<u8>, variables: &[ShownVariable]) -> Result<(), All
 /// Puts the variables of a frame at the end.
 #[tactic(auto, using(std::proofs::lemmas::Grind::common_steps, crate::proofs::Led::list_led), unfolding(crate::specs::Variables::variables_field))]
 pub fn write_variables(into: &mut Vec<u8>, variables: &[ShownVariable]) -> Result<(), AllocError>
-    ensures written { OnOk result (into.new.items ≡ into.old.items ++ led 44 (variables_field variables.now)) }
-    ensures kept { Keeps into.old.items into.new.items }
+    ensures { Adds result into.old.items into.new.items (led 44 (variables_field variables.now)) }
 {
     write_head(into, b',', Key::Variables)?;
     write_list(into, variables)?;

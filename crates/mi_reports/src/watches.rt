@@ -1,7 +1,5 @@
 // Watches as they are told and listed.
-ghost use Rattle.std.specs.Prelude.{◌≡◌, ◌++◌, OnOk};
-ghost use Rattle.mi_text.specs.Keeps.{Keeps};
-ghost use Rattle.mi_reports.specs.Led.{led, opened};
+ghost use Rattle.mi_reports.specs.Led.{Adds, led, opened};
 ghost use Rattle.mi_reports.specs.Watches.{watch_field, listed_fields, listed_field};
 
 use crate::breakpoints::{enabled, write_kind};
@@ -13,8 +11,7 @@ use watch_points::Watch;
 /// Puts a watch by its number at the end, with the text by which its bytes were given.
 #[tactic(auto, using(std::proofs::lemmas::Grind::common_steps, crate::proofs::Led::tuple_led), unfolding(crate::specs::Watches::told_fields, crate::specs::Watches::watch_field))]
 pub fn write_watch(into: &mut Vec<u8>, number: u32, expression: &[u8]) -> Result<(), AllocError>
-    ensures written { OnOk result (into.new.items ≡ into.old.items ++ led 44 (watch_field number expression.now)) }
-    ensures kept { Keeps into.old.items into.new.items }
+    ensures { Adds result into.old.items into.new.items (led 44 (watch_field number expression.now)) }
 {
     write_head(into, b',', Key::Wpt)?;
     write_word(into, b'{', Key::Number, number)?;
@@ -23,10 +20,8 @@ pub fn write_watch(into: &mut Vec<u8>, number: u32, expression: &[u8]) -> Result
 }
 
 // The fields of a watch of the table behind their bracket.
-#[tactic(auto, using(std::proofs::lemmas::Grind::common_steps), unfolding(crate::specs::Watches::listed_fields))]
 fn write_fields(into: &mut Vec<u8>, watch: &Watch) -> Result<(), AllocError>
-    ensures written { OnOk result (into.new.items ≡ into.old.items ++ opened 123 (listed_fields watch.now)) }
-    ensures kept { Keeps into.old.items into.new.items }
+    ensures { Adds result into.old.items into.new.items (opened 123 (listed_fields watch.now)) }
 {
     write_word(into, b'{', Key::Number, watch.number)?;
     write_kind(
@@ -42,8 +37,7 @@ fn write_fields(into: &mut Vec<u8>, watch: &Watch) -> Result<(), AllocError>
 /// Puts a watch of the table of breakpoints at the end.
 #[tactic(auto, using(std::proofs::lemmas::Grind::common_steps, crate::proofs::Led::tuple_led), unfolding(crate::specs::Watches::listed_field))]
 pub fn write_listed(into: &mut Vec<u8>, lead: u8, watch: &Watch) -> Result<(), AllocError>
-    ensures written { OnOk result (into.new.items ≡ into.old.items ++ led lead (listed_field watch.now)) }
-    ensures kept { Keeps into.old.items into.new.items }
+    ensures { Adds result into.old.items into.new.items (led lead (listed_field watch.now)) }
 {
     write_head(into, lead, Key::Bkpt)?;
     write_fields(into, watch)?;

@@ -151,6 +151,7 @@ pub enum Phrase {
 
 /// The text of a key, which is a name.
 #[tactic(auto, unfolding(crate::specs::Words::key_text))]
+#[inline(always)]
 pub fn name(key: Key) -> &'static str
     ensures { result.now ≡ key_text key }
 {
@@ -222,6 +223,7 @@ pub fn name(key: Key) -> &'static str
 }
 
 /// The bytes of a fixed text.
+#[inline(always)]
 pub fn wording(phrase: Phrase) -> &'static [u8]
     ensures { result.now ≡ phrase_text phrase }
 {
