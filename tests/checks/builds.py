@@ -6,9 +6,8 @@ import signal
 import tempfile
 
 from checks.clones import PROGRAM, Clone, written
-from checks.rig import PATIENCE, USAGE
+from checks.rig import BUILT_AT, PATIENCE, USAGE
 
-BUILT = ("crates", "dbg_program", "out", "dbg_program")
 RELEASE = ("release", "rvdbg-x86_64-linux")
 NOT_BUILT = "the program isn't built yet"
 NO_KIT = "The command rt isn't found"
@@ -57,19 +56,19 @@ def check_step(rig, clone):
         ("a source is new", lambda: written(clone.path("crates", "low", "specs", "More.antt"), "")),
         ("a source is gone", lambda: os.remove(clone.path("crates", "low", "specs", "More.antt"))),
         ("crates.txt has changed", lambda: written(clone.path("crates.txt"), "low:\ndbg_program: low low\n")),
-        ("the built program has changed", lambda: clone.change("# more\n", *BUILT)),
-        ("its sums are gone", lambda: os.remove(clone.path(*BUILT[:-1], "SHA256SUMS"))),
+        ("the built program has changed", lambda: clone.change("# more\n", *BUILT_AT)),
+        ("its sums are gone", lambda: os.remove(clone.path(*BUILT_AT[:-1], "SHA256SUMS"))),
     ):
         change()
         building(rig, name, clone)
         silent(rig, name + ", and was built", clone)
-    os.makedirs(clone.path(*BUILT[:-1], "incremental"))
+    os.makedirs(clone.path(*BUILT_AT[:-1], "incremental"))
     clone.change("// more\n", "crates", "low", "src", "lib.rt")
     building(rig, "a crate that was checked in place is built there", clone, asked="run")
-    os.rmdir(clone.path(*BUILT[:-1], "incremental"))
+    os.rmdir(clone.path(*BUILT_AT[:-1], "incremental"))
     original, clone.folder = clone.folder, clone.folder + "-copy"
     shutil.copytree(original, clone.folder, copy_function=shutil.copyfile)
-    for name in ("rvdbg", "tools/build", "/".join(BUILT)):
+    for name in ("rvdbg", "tools/build", "/".join(BUILT_AT)):
         os.chmod(clone.path(name), 0o755)
     silent(rig, "a copy", clone)
     clone.folder = original
@@ -85,7 +84,7 @@ def release(clone):
 def check_release_runs(rig, clone):
     """The release runs where nothing is built and it is of these sources; where it isn't used that is said."""
     rig.row("a release of what was built", release(clone), 0)
-    shutil.rmtree(clone.path(*BUILT[:-1]))
+    shutil.rmtree(clone.path(*BUILT_AT[:-1]))
     silent(rig, "the release runs", clone)
     rig.row("the release: without a kit", clone.run("0", has_kit=False), (0, b"", ""))
     said = "rvdbg: the release runs, which is of these sources: %s\n" % clone.path(*RELEASE)
@@ -103,7 +102,7 @@ def check_release_runs(rig, clone):
         ("without its sums", "the release has no release/SHA256SUMS", lambda: os.remove(clone.path("release", "SHA256SUMS"))),
     ):
         rig.row("a release", release(clone), 0)
-        shutil.rmtree(clone.path(*BUILT[:-1]))
+        shutil.rmtree(clone.path(*BUILT_AT[:-1]))
         silent(rig, "the release runs before it is " + name, clone)
         change()
         building(rig, "a release that is " + name, clone, "rvdbg: %s, so it isn't used\n" % said)
@@ -116,7 +115,7 @@ def check_foreign(rig, clone):
     clone.run("--build")
     release(clone)
     written(kept, PROGRAM, 0o755)
-    shutil.rmtree(clone.path(*BUILT[:-1]))
+    shutil.rmtree(clone.path(*BUILT_AT[:-1]))
     clone.runs()
     machine = os.uname().machine
     said = "rvdbg: the release doesn't start on this machine, %s: no such C library, so it isn't used\n" % machine

@@ -45,7 +45,10 @@ def check_compilers(rig, top, name, text):
     for line in [line for block in SHELL.findall(text) for line in block.splitlines()]:
         words = shlex.split(line)
         wanted = words[:1] + ["ld.lld"] * ("-fuse-ld=lld" in words)
-        if "-o" not in words or not all(shutil.which(it) for it in wanted):
+        if "-o" not in words:
+            continue
+        if missing := [it for it in wanted if not shutil.which(it)]:
+            print("outside: not run: `%s` of %s: %s isn't installed" % (line, name, missing[0]), flush=True)
             continue
         made, source = words[words.index("-o") + 1], next(it for it in words if it.endswith(".c"))
         shutil.rmtree(place, ignore_errors=True)

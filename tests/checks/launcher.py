@@ -12,10 +12,9 @@ import struct
 import subprocess
 import tempfile
 
-from checks.builds import BUILT
 from checks.clones import Clone, written
 from checks.programs import EXIT, LOOP, Section, plain
-from checks.rig import EXITED, OPENING, PATIENCE, RUNNING, USAGE
+from checks.rig import BUILT_AT, EXITED, OPENING, PATIENCE, RUNNING, USAGE
 
 CONTINUE = b"-exec-continue\n"
 LONG = "1000000000000"
@@ -73,8 +72,8 @@ class Launcher(Clone):
 
     def __init__(self, rig, top, folder):
         super().__init__(top, folder)
-        written(self.path(*BUILT), "")
-        shutil.copy(rig.program, self.path(*BUILT))
+        written(self.path(*BUILT_AT), "")
+        shutil.copy(rig.program, self.path(*BUILT_AT))
         self.run(script="tools/record")
         self.run(self.run(script="tools/record")[1].decode().strip(), script="tools/record")
         for name, words in (("exit", EXIT), ("loop", LOOP)):
@@ -184,7 +183,7 @@ def check_signals(rig, clone):
 def check_closed(rig, clone):
     """With a standard input that is closed it is as the program itself."""
     found = subprocess.run(["sh", "-c", "./rvdbg --workers 0 exit <&-"], cwd=clone.folder, env=clone.settings(), stdout=subprocess.PIPE, timeout=PATIENCE)
-    own = subprocess.run(["sh", "-c", "%s --workers 0 exit <&-" % clone.path(*BUILT)], cwd=clone.folder, stdout=subprocess.PIPE, timeout=PATIENCE)
+    own = subprocess.run(["sh", "-c", "%s --workers 0 exit <&-" % clone.path(*BUILT_AT)], cwd=clone.folder, stdout=subprocess.PIPE, timeout=PATIENCE)
     rig.row("launcher: a closed input", (found.returncode, found.stdout), (own.returncode, own.stdout))
 
 
@@ -229,7 +228,7 @@ def check_memory(rig, clone):
 
 def check_stand_in(rig, clone):
     """What only a program that is a script shows: the other statuses, the bound of memory, a signal of its own."""
-    os.remove(clone.path(*BUILT))
+    os.remove(clone.path(*BUILT_AT))
     clone.run("--build")
     rows = (
         ("4", 4, "rvdbg: the history is full, with 4194304 stops, counted arrivals, exits, lines and writes, or 64 MiB of input: begin a new session\n"),

@@ -6,7 +6,7 @@ import re
 import shutil
 import subprocess
 
-BUILT = os.path.join("crates", "dbg_program", "out")
+from checks.rig import BUILT
 
 
 def sums_in(folder):
@@ -33,7 +33,7 @@ def printed(*words):
 
 def check_release(rig, top):
     """Compares the release with the program that was built. What keeps them from being compared is told at the end."""
-    released, built = sums_in(os.path.join(top, "release")), sums_in(os.path.join(top, BUILT))
+    released, built = sums_in(os.path.join(top, "release")), sums_in(os.path.dirname(BUILT))
     sources = printed(os.path.join(top, "tools", "record"))
     if released is None:
         rig.notes.append("there is no release")
@@ -41,7 +41,7 @@ def check_release(rig, top):
         rig.notes.append("the release is behind: it is of other sources than these")
     elif shutil.which("rt") and released[1] != printed("rt", "version"):
         rig.notes.append("the release is behind: it was built by %s" % released[1])
-    elif os.path.realpath(rig.program) != os.path.realpath(os.path.join(top, BUILT, "dbg_program")) or built is None or built[0] != sources:
+    elif os.path.realpath(rig.program) != os.path.realpath(BUILT) or built is None or built[0] != sources:
         rig.notes.append("the release is of these sources, and no program that was built of them is here to compare it with")
     else:
         rig.row("the release is what was built", digest(rig.program), released[2])

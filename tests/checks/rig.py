@@ -8,6 +8,10 @@ import subprocess
 import time
 
 PATIENCE = 30.0
+TOP = os.path.dirname(os.path.dirname(os.path.dirname(os.path.realpath(__file__))))
+# The program where it is built, by the folders from the clone's top on, and its path in this clone.
+BUILT_AT = ("crates", "dbg_program", "out", "dbg_program")
+BUILT = os.path.join(TOP, *BUILT_AT)
 
 OPENING = b'=thread-created,id="1",group-id="i1"\n(gdb)\n'
 RUNNING = b'^running\n*running,thread-id="1"\n(gdb)\n'
