@@ -140,6 +140,7 @@ class Breakpoints(Engine):
     def on_set_breakpoints(self, arguments):
         path = arguments["source"].get("path") or arguments["source"]["name"]
         self.sources.tell(path)
+        arguments.setdefault("breakpoints", [{"line": it} for it in arguments.get("lines") or ()])
         return self.replace_points("source " + path, lambda it: "%s:%d" % (path, it["line"]), arguments)
 
     def on_set_exception_breakpoints(self, _):

@@ -144,8 +144,7 @@ class Engine:
 
     def on_read_memory(self, arguments):
         begins, count = place(arguments), max(0, int(arguments["count"]))
-        found = self.bytes_at(begins, count)
-        data = base64.b64encode(found).decode()
+        data = base64.b64encode(found := self.bytes_at(begins, count)).decode()
         return {"address": "0x%08x" % begins, "data": data, "unreadableBytes": count - len(found)}
 
     def bytes_at(self, begins, count):
@@ -176,21 +175,22 @@ class Engine:
     def on_disassemble(self, arguments):
         count, first = int(arguments["instructionCount"]), int(arguments.get("instructionOffset") or 0)
         need(0 <= count <= 1 << 16, "at most 65,536 instructions are taken apart at once, not %d", count)
-        begins = (place(arguments) & ~3) + 4 * first
-        return {"instructions": [self.disassembled((begins + 4 * it) % WORD) for it in range(count)]}
+        begins, is_named = (place(arguments) & ~3) + 4 * first, arguments.get("resolveSymbols") is not False
+        near = self.program.near if is_named else lambda _: ""
+        return {"instructions": [self.disassembled((begins + 4 * it) % WORD, near) for it in range(count)]}
 
     def instruction_at(self, address):
         content = self.bytes_at(address, 4)
         is_whole = len(content) == 4 and self.program.is_text(address)
         return Instruction(int.from_bytes(content, "little"), address) if is_whole else None
 
-    def disassembled(self, address):
-        told, found, near = {"address": "0x%08x" % address}, self.instruction_at(address), self.program.near(address)
+    def disassembled(self, address, near):
+        told, found, name = {"address": "0x%08x" % address}, self.instruction_at(address), near(address)
         if found is None:
             return dict(told, instruction="no instruction", presentationHint="invalid")
-        told.update({"symbol": near} if near else {}, instructionBytes=found.word.to_bytes(4, "little").hex())
+        told.update({"symbol": name} if name else {}, instructionBytes=found.word.to_bytes(4, "little").hex())
         text, row = found.text() or ".word 0x%08x" % found.word, self.program.row(address)
         goes = re.search(r",0x([0-9a-f]{8})$", text)
-        there = goes and self.program.near(int(goes[1], 16))
+        there = goes and near(int(goes[1], 16))
         told["instruction"] = "%s <%s>" % (text, there) if there else text
         return dict(told, location=self.sources.source(row.path, address), line=row.line) if row else told

@@ -129,8 +129,7 @@ class Debugger:
         try:
             line = b"%d%s\n" % (self.token, command.encode("utf-8", "surrogateescape"))
             os.write(self.process.stdin.fileno(), line)
-            is_over = self.has_ended or answer.over.wait(seconds)
-            need(is_over, "%.100s: the debugger doesn't answer in time", command)
+            need(self.has_ended or answer.over.wait(seconds), "%.100s: the debugger doesn't answer in time", command)
             need(self.waiting is None, "the debugger has ended")
             running = [record(it).fields for it in answer.lines if it.startswith(b"*running,")]
             return record(answer.lines[0]), [int(it["thread-id"]) for it in running]

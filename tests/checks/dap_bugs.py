@@ -36,6 +36,8 @@ def check_console_breakpoints(rig, name):
         rig.row(name + ": which the editor takes over", (told[2]["id"], 'nr_rows="3"' in editor.value("-break-list", frame, "repl")), (new["id"], True))
         editor.value("-break-watch {int} &turns", frame, "repl")
         watch = editor.event("breakpoint", reason="new")["breakpoint"]["id"]
+        told = editor.ask("setBreakpoints", source={"path": VALUES}, lines=[48, 29])["breakpoints"]
+        rig.row(name + ": by their lines alone", [(it["id"], it["line"]) for it in told], [(first["id"], 48), (new["id"], 29)])
         editor.ask("setBreakpoints", source={"path": VALUES}, breakpoints=[])
         editor.ask("continue", threadId=1)
         rig.row(name + ": its watch stops", editor.event("stopped", reason="data breakpoint")["hitBreakpointIds"], [watch])

@@ -159,6 +159,8 @@ def check_disassembly(rig, name):
         at = editor.ask("stackTrace", threadId=1)["stackFrames"][0]["instructionPointerReference"]
         rows = editor.ask("disassemble", memoryReference=at, instructionOffset=-2, instructionCount=4, resolveSymbols=True)["instructions"]
         rig.row(name + ": addresses", [int(it["address"], 16) - int(at, 16) for it in rows], [-8, -4, 0, 4])
+        bare = editor.ask("disassemble", memoryReference=at, instructionCount=1, resolveSymbols=False)["instructions"][0]
+        rig.row(name + ": no symbols", (bare["line"], "symbol" in bare), (48, False))
         rig.row(name + ": the place", (rows[2]["line"], rows[2]["location"]["path"], rows[2]["symbol"][:5]), (48, VALUES, "main+"))
         rows = editor.ask("disassemble", memoryReference="0x0000", offset=2, instructionCount=3)["instructions"]
         rig.row(name + ": none", [(it["instruction"], it["presentationHint"]) for it in rows], [("no instruction", "invalid")] * 3)
