@@ -40,7 +40,7 @@ class Server:
     """
 
     def __init__(self, client, engine, log):
-        self.client, self.engine, self.log, self.stops = client, engine, log, Stops(engine, False, self.close)
+        self.client, self.engine, self.log, self.stops = client, engine, log, Stops(engine, self.close)
         self.is_done, self.written, self.is_calling = False, [], False
 
     def run(self):
@@ -122,11 +122,16 @@ class Server:
 
     # The session and its threads.
 
+    def on_supported(self, text):
+        """What the bridge can. Of breakpoints it tells a GDB that knows how."""
+        self.stops.tells_breakpoints = "swbreak+" in text
+        return FEATURES
+
     def on_no_acknowledgement(self, _):
         self.client.is_acknowledging = False
 
     def on_non_stop(self, text):
-        self.stops = Stops(self.engine, {"0": False, "1": True}[text], self.close)
+        self.stops.is_non_stop = self.stops.is_waiting = {"0": False, "1": True}[text]
 
     def on_monitor(self, text):
         line = bytes.fromhex(text).decode("utf-8", "surrogateescape")
@@ -216,7 +221,7 @@ class Server:
 
 # What packets begin with, and what answers them: the longest beginning counts.
 PACKETS = {
-    "qSupported": lambda server, text: FEATURES,
+    "qSupported": Server.on_supported,
     "QStartNoAckMode": Server.on_no_acknowledgement,
     "QNonStop:": Server.on_non_stop,
     "QThreadEvents:": Server.on_thread_events,

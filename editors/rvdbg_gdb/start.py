@@ -40,7 +40,8 @@ class Log:
     """The output of a session, in a file without a name, and the path where it is to be stored at the end, if any."""
 
     def __init__(self, asked):
-        self.check, self.path, self.file = [asked.rvdbg, "--check=" + asked.program], None, tempfile.TemporaryFile()
+        self.check, self.program = [asked.rvdbg, "--check=" + asked.program], asked.program
+        self.path, self.file = None, tempfile.TemporaryFile()
 
     def write(self, piece):
         if self.file.tell() <= LONGEST_LOG:
@@ -50,8 +51,13 @@ class Log:
         """The output has ended."""
 
     def want(self, path):
+        """The file is empty until then, so that what an earlier session left isn't taken for this one's."""
         path = os.path.abspath(os.path.expanduser(path))
-        need(os.access(os.path.dirname(path), os.W_OK) and not os.path.isdir(path), "%s can't be written", path)
+        need(os.path.realpath(path) != os.path.realpath(self.program), "the log can't be the program itself")
+        try:
+            open(path, "wb").close()
+        except OSError as error:
+            raise Refused("%s can't be written" % path) from error
         self.path = path
 
     def verdict(self):

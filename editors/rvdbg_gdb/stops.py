@@ -12,15 +12,16 @@ LATER = object()
 
 
 class Stops:
-    """`is_waiting` says that GDB takes a stop, `is_opening` that its connection doesn't stand yet.
+    """`is_waiting` says that GDB takes a stop, `is_opening` that its connection doesn't stand yet, and
+    `tells_breakpoints` that it has said by `swbreak` that it wants to be told of them.
 
     In all-stop mode it takes one after `resumed` have gone on. In non-stop mode it takes one by one, and asks for the
     next: `sent` is the thread whose stop is on its way, for which what lets all threads go on isn't meant.
     """
 
-    def __init__(self, engine, is_non_stop, close):
-        self.engine, self.is_non_stop, self.close = engine, is_non_stop, close
-        self.is_waiting, self.is_opening, self.has_ended, self.resumed, self.sent = is_non_stop, False, False, [], None
+    def __init__(self, engine, close):
+        self.engine, self.close, self.resumed, self.sent = engine, close, [], None
+        self.is_non_stop = self.is_waiting = self.is_opening = self.has_ended = self.tells_breakpoints = False
 
     def reply(self, thread, stop):
         """A stop reply. Where a watch has fired behind a breakpoint, which can be of no other thread, that is told."""
@@ -30,7 +31,7 @@ class Stops:
         others = [it for it in self.engine.untold.values() if it.kind in (BREAKPOINT, WATCH)]
         if kind == BREAKPOINT and fired is not None and not others and not self.engine.running():
             kind, at = WATCH, fired
-        why = {BREAKPOINT: "swbreak:;", WATCH: "watch:%x;" % at}.get(kind, "")
+        why = {BREAKPOINT: "swbreak:;" * self.tells_breakpoints, WATCH: "watch:%x;" % at}.get(kind, "")
         values = zip(FIRST, self.engine.registers(thread, FIRST))
         first = "".join("%x:%s;" % (number, struct.pack("<I", value).hex()) for number, value in values)
         return "T%02xthread:%x;%s%s" % (stop.signal, thread.number, why, first)

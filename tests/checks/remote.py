@@ -119,6 +119,9 @@ def check_pending(rig, name):
             found = [remote.ask(it)[:20] for it in ["?", "Z0,10074,4", "vCont;c", "z0,10074,4", "vCont;s:1", *last, "vCont;c"]]
             rig.row("%s: %s" % (name, wanted), (found[2], found[4], found[-1]), ("T05thread:1;swbreak:", "T05thread:1;20:01000", wanted))
     with Remote(rig, "--harts=2", "fault-gcc-O0", debugger=both).open() as remote:
+        found = [remote.ask(it)[:14] for it in ("qSupported:no-resumed+", "Z0,10074,4", "vCont;c")]
+        rig.row(name + ": a client without `swbreak`", found[1:], ["OK", "T05thread:1;20"])
+    with Remote(rig, "--harts=2", "fault-gcc-O0", debugger=both).open() as remote:
         remote.ask("QNonStop:1")
         rig.row(name + ": one at first", (remote.ask("?")[:13], remote.ask("vStopped")), ("T00thread:1;2", "OK"))
         rig.row(name + ": the other later", [it[:11] for it in remote.notified()], ["T00thread:2"])
@@ -165,6 +168,7 @@ def check_ends(rig, name):
         ([loop], peer(rig, "building"), b"builds it, which takes"),
         ([loop], "/nowhere", b"doesn't start"),
         (["--log", "/nowhere/log", loop], None, b"can't be written"),
+        (["--log", loop, loop], None, b"the log can't be the program itself"),
         (["--hearts", "2", loop], None, b"usage"),
     ):
         with Remote(rig, *words, debugger=debugger) as remote:
@@ -208,10 +212,11 @@ def check_ports(rig, name):
 
 
 def check_logs(rig, name):
-    """The session of a client that goes is stored and checked."""
-    log = os.path.join(rig.folder, "gdb.log")
+    """The session of a client that goes is stored and checked. What its file had before is gone from the start."""
+    log = os.path.join(rig.folder, rig.put("gdb.log", b"an earlier session"))
     with Remote(rig, "--log", log, "fault-gcc-O0").open() as remote:
         remote.ask("vCont;c")
+        rig.row(name + ": empty until then", os.path.getsize(log), 0)
         remote.process.stdin.close()
         said = remote.process.stderr.read().decode()
         is_accepted = re.fullmatch("rvdbg: %s: check accepted [0-9]+\n" % re.escape(log), said) is not None
