@@ -7,7 +7,8 @@ import signal
 import subprocess
 import time
 
-PATIENCE = 30.0
+# A guard against what never ends: on a busy machine a check may take its time.
+PATIENCE = 120.0
 TOP = os.path.dirname(os.path.dirname(os.path.dirname(os.path.realpath(__file__))))
 # The program where it is built, by the folders from the clone's top on, and its path in this clone.
 BUILT_AT = ("crates", "dbg_program", "out", "dbg_program")
