@@ -12,7 +12,7 @@ ghost use Rattle.mi_reports.specs.Lines.{lines_of, may_show};
 ghost use Rattle.mi_reports.specs.Replies.{reply_lines};
 ghost use Rattle.session_parts.specs.Puts.{PutsLines};
 ghost use Rattle.session_parts.specs.Reported.{AreMoved, Notes, NotesLine, is_last, move_lines, shown_lines};
-ghost use Rattle.session_parts.specs.Stage.{stage_of, work_of};
+ghost use Rattle.session_parts.specs.Stage.{most_added, stage_of, work_of};
 ghost use Rattle.session_parts.specs.Steps.{IsMove, Turns, Goes, Does, Answers};
 ghost use Rattle.session_parts.specs.declared.turn.Turn.TheVariants as turn;
 
@@ -207,7 +207,7 @@ pub fn line_once<W: World>(
     requires facts { Facts engine.old }
     ensures facts { Facts engine.new }
     ensures opening { engine.new.opening ≡ engine.old.opening }
-    ensures work { work_of (stage_of engine.new) ≤ work_of (stage_of engine.old) + 832 }
+    ensures work { work_of (stage_of engine.new) ≤ work_of (stage_of engine.old) + most_added }
     ensures does { Does result ended rest.now (W.told world.old) (W.told world.new) (stage_of engine.old) (stage_of engine.new) }
 {
     let Some((text, next)) = next_line(rest, ended) else {

@@ -9,7 +9,7 @@ use Rattle.session_parts.specs.Stage.{Stage}
 use Rattle.session_parts.specs.Steps.{can_do, may_take}
 use Rattle.session_parts.specs.Taking.{has_line, is_some_line}
 use Rattle.session_parts.specs.Ties.{session_work}
-use Rattle.session_parts.specs.Seen.{Seen, Same, GotOn, work, no_input, no_line, no_move, is_open, movers, ahead}
+use Rattle.session_parts.specs.Seen.{Seen, Same, GotOn, most_picks, work, no_input, no_line, no_move, is_open, movers, ahead}
 
 same_work : {W : Type 0} (s t : Seen W) → Same s t → work t ≡ work s
 same_work s t h = rw (h.run, h.input, h.status, h.next) refl
@@ -21,7 +21,7 @@ not_more false s t w h = omega (arith, same_work s t h.0)
 -- less to do, however many are picked in vain
 pub less_work : {W : Type 0} (s t : Seen W) → session_work t.status t.run t.input < session_work s.status s.run s.input → work t < work s
 less_work s t less =
-    let a : min 33 (ahead (movers t.run) t.next) ≤ 33 = omega arith in
+    let a : min most_picks (ahead (movers t.run) t.next) ≤ most_picks = omega arith in
     omega arith
 
 status_none : (o : Option Status) → o ≡ None → is_some o ≡ true → ⊥

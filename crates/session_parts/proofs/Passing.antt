@@ -11,7 +11,7 @@ use Rattle.engine_parts.proofs.Picks.{next_of_all}
 use Rattle.session_parts.specs.declared.status.Status.{Status}
 use Rattle.session_parts.specs.Stage.{Stage, stage_of, moves_at}
 use Rattle.session_parts.specs.Ties.{session_work}
-use Rattle.session_parts.specs.Seen.{Seen, Same, HasTurned, work, movers, ahead, picked}
+use Rattle.session_parts.specs.Seen.{Seen, Same, HasTurned, most_picks, work, work_worth, movers, ahead, picked}
 use Rattle.session_parts.proofs.Picking.{mover_runs}
 use Rattle.session_parts.proofs.Getting.{less_work}
 use Rattle.session_parts.proofs.Ahead.{fewer, ahead_most, movers_length, movers_below, mover_at, next_within, next_runs, none_runs}
@@ -38,10 +38,10 @@ nearer e next h f is stays =
     let m = some_mover e f.sound runs in
     fewer next h (movers r) xs below len is rests (ahead_proofs.some_mover r m.hart m.low m.moves)
 
-few_ahead : (e : Engine) (next : ℕ) → Facts e → ahead (movers (stage_of e)) next ≤ 33
+few_ahead : (e : Engine) (next : ℕ) → Facts e → ahead (movers (stage_of e)) next ≤ most_picks
 few_ahead e next f = omega (arith, ahead_most (movers (stage_of e)) next, movers_length (stage_of e) 0 (length e.minds), f.sound.count, f.sound.settings.harts.1)
 
-less_min : (w p q : ℕ) → p < q → q ≤ 33 → 34 * w + min 33 p < 34 * w + min 33 q
+less_min : (w p q : ℕ) → p < q → q ≤ most_picks → work_worth * w + min most_picks p < work_worth * w + min most_picks q
 less_min w p q less few = omega arith
 
 -- a hart was picked and turned: there is less to do
@@ -56,10 +56,10 @@ turned_less {W = W} e s t u h f run is next (inr stood) =
     let stays : moves_at (stage_of e) h ≡ false = ap (λ (r : Stage). moves_at r h) (sym kept) ∙ stood.1 in
     let near = nearer e s.next h f there stays in
     let less = less_min w (ahead (movers (stage_of e)) (h + 1)) (ahead (movers (stage_of e)) s.next) near (few_ahead e s.next f) in
-    let before : work s ≡ 34 * w + min 33 (ahead (movers (stage_of e)) s.next) = ap (λ (r : Stage). 34 * w + min 33 (ahead (movers r) s.next)) (sym run) in
+    let before : work s ≡ work_worth * w + min most_picks (ahead (movers (stage_of e)) s.next) = ap (λ (r : Stage). work_worth * w + min most_picks (ahead (movers r) s.next)) (sym run) in
     let after : work u ≡ work t = rw (stood.0.run, stood.0.input, stood.0.status, stood.0.next) refl in
-    let picked_work : work t ≡ 34 * w + min 33 (ahead (movers s.run) (h + 1)) = ap (λ (x : Seen W). work x) next in
-    let behind : 34 * w + min 33 (ahead (movers s.run) (h + 1)) ≡ 34 * w + min 33 (ahead (movers (stage_of e)) (h + 1)) = ap (λ (r : Stage). 34 * w + min 33 (ahead (movers r) (h + 1))) (sym run) in
+    let picked_work : work t ≡ work_worth * w + min most_picks (ahead (movers s.run) (h + 1)) = ap (λ (x : Seen W). work x) next in
+    let behind : work_worth * w + min most_picks (ahead (movers s.run) (h + 1)) ≡ work_worth * w + min most_picks (ahead (movers (stage_of e)) (h + 1)) = ap (λ (r : Stage). work_worth * w + min most_picks (ahead (movers r) (h + 1))) (sym run) in
     omega (arith, less, before, after, picked_work, behind)
 
 none_so : (o : Option Status) → is_some o ≡ false → o ≡ None

@@ -49,7 +49,7 @@ use Rattle.engine_parts.specs.Shown.{shown_by, wrote}
 use Rattle.engine_parts.proofs.Arrivals.{stopped_halts}
 use Rattle.engine_parts.proofs.Shown.{stop_shows}
 use Rattle.engine_parts.specs.Movers.{runs_at, runs_as, is_free, is_idle, idle_as, waits_for_slot}
-use Rattle.session_parts.specs.Stage.{stage_of, work_of, running, moves, moves_of, moves_left, moves_at}
+use Rattle.session_parts.specs.Stage.{stage_of, work_of, instruction_worth, most_added, most_moves, running, moves, moves_of, moves_left, moves_at}
 use Rattle.dbg_model.specs.State.{is_running}
 use Rattle.dbg_model.specs.Lawful.{may_go}
 use Rattle.engine_parts.specs.declared.mind.Activity.{Activity}
@@ -81,13 +81,13 @@ nothing_written : stream_lines [] ≡ []
 nothing_written = refl
 
 -- few harts, and few moves of theirs
-pub few_moves : (r : Engine) → Facts r → moves r.minds ≤ 48
+pub few_moves : (r : Engine) → Facts r → moves r.minds ≤ most_moves
 few_moves r f = omega (arith, moves_most r.minds, f.sound.count, f.sound.settings.harts.1)
 
 pub few_run : (r : Engine) → Facts r → running (seen r).harts ≤ 16
 few_run r f = omega (arith, running_most (seen r).harts, harts_length r.opening.image r.machine.cores r.minds f.sound.harts.len, f.sound.count, f.sound.settings.harts.1)
 
-less_work : (b r s m n p q : ℕ) → r < b → s ≡ r + 1 → m ≤ n → p ≤ 48 → 49 * (b - s) + (49 * m + p) < 49 * (b - r) + (49 * n + q)
+less_work : (b r s m n p q : ℕ) → r < b → s ≡ r + 1 → m ≤ n → p ≤ most_moves → instruction_worth * (b - s) + (instruction_worth * m + p) < instruction_worth * (b - r) + (instruction_worth * n + q)
 less_work b r s m n p q low is le few = omega arith
 
 ran_less : (r s : Engine) (h : ℕ) (t : State) → one r.opening h (seen r) ≡ Some t → (seen s).retired ≡ t.retired → running (seen s).harts ≤ running t.harts → s.opening ≡ r.opening → Facts s → work_of (stage_of s) < work_of (stage_of r)
@@ -95,7 +95,7 @@ ran_less r s h t is retired run opening g =
     let w = one_works r.opening h (seen r) t is in
     let more : s.retired ≡ r.retired + 1 = retired ∙ w.retired in
     let le : running (seen s).harts ≤ running (seen r).harts = let a = w.running in omega arith in
-    let P : Opening → Type 0 = λ o. 49 * (o.settings.budget - s.retired) + (49 * running (seen s).harts + moves s.minds) < work_of (stage_of r) in
+    let P : Opening → Type 0 = λ o. instruction_worth * (o.settings.budget - s.retired) + (instruction_worth * running (seen s).harts + moves s.minds) < work_of (stage_of r) in
     subst P (sym opening) (less_work r.opening.settings.budget r.retired s.retired (running (seen s).harts) (running (seen r).harts) (moves s.minds) (moves r.minds) w.below more le (few_moves s g))
 
 -- said over equal openings and journals
@@ -153,7 +153,7 @@ halts_say why r s h f g low does =
     let same : s.retired ≡ r.retired = halt.retired in
     let less = halt.running in
     let few = few_moves s g in
-    let P : Opening → Type 0 = λ o. 49 * (o.settings.budget - s.retired) + (49 * running (seen s).harts + moves s.minds) < work_of (stage_of r) in
+    let P : Opening → Type 0 = λ o. instruction_worth * (o.settings.budget - s.retired) + (instruction_worth * running (seen s).harts + moves s.minds) < work_of (stage_of r) in
     let k = since r s r.journal (e ∷ []) f g m.journal refl refl in
     let there : h < length s.minds = let len = ap length m.minds ∙ length-set r.minds h first_mind in omega arith in
     let shown : entry_lines r.opening (seen r) e ≡ move_lines s move.Stopped h r.noted =
@@ -179,7 +179,7 @@ counts_say r s h f g m =
     let set = moves_set r.minds h m.mind (counted_mind (plan_for r h m.hart) m.mind) m.at in
     let one = moves_fresh m.mind m.fresh in
     let fewer : moves s.minds < moves r.minds = omega (arith, ap moves m.minds) in
-    let P : Opening → Type 0 = λ o. 49 * (o.settings.budget - s.retired) + (49 * running (seen s).harts + moves s.minds) < work_of (stage_of r) in
+    let P : Opening → Type 0 = λ o. instruction_worth * (o.settings.budget - s.retired) + (instruction_worth * running (seen s).harts + moves s.minds) < work_of (stage_of r) in
     record {
       opening = m.opening;
       notes = notes r s (e ∷ []) (since r s r.journal (e ∷ []) f g m.journal refl refl) refl (tt, tt);
@@ -194,9 +194,9 @@ quiets_say : (t : Move) (r s : Engine) (h : ℕ) (x : Mind) (p : Phase) (hold : 
 quiets_say t r s h x p hold f g m at less text =
     let set = moves_set r.minds h x (with_phase x p) at in
     let fewer : moves s.minds < moves r.minds = omega (arith, ap moves m.minds) in
-    let shown : work_of (stage_of s) ≡ 49 * (r.opening.settings.budget - (seen r).retired) + (49 * running (seen r).harts + moves s.minds) =
-    ap (λ o. 49 * (o.settings.budget - (seen s).retired) + (49 * running (seen s).harts + moves s.minds)) m.opening
-    ∙ ap (λ (u : State). 49 * (r.opening.settings.budget - u.retired) + (49 * running u.harts + moves s.minds)) m.seen in
+    let shown : work_of (stage_of s) ≡ instruction_worth * (r.opening.settings.budget - (seen r).retired) + (instruction_worth * running (seen r).harts + moves s.minds) =
+    ap (λ o. instruction_worth * (o.settings.budget - (seen s).retired) + (instruction_worth * running (seen s).harts + moves s.minds)) m.opening
+    ∙ ap (λ (u : State). instruction_worth * (r.opening.settings.budget - u.retired) + (instruction_worth * running u.harts + moves s.minds)) m.seen in
     record {
       opening = m.opening;
       notes = notes r s [] (since r s r.journal [] f g (m.journal ∙ sym (append-nil r.journal)) refl refl) refl tt;
@@ -256,7 +256,7 @@ pub record DoneSaid (r s : Engine) (line : List ℕ) (answer : Reply) : Type 0 w
   pub said : lines_by (stage_of s) ≡ lines_by (stage_of r) ++ reply_lines answer
   pub journal : s.journal ≡ r.journal ++ Did line ∷ pokes_of (done_by r.opening (seen r) line).pending
   pub did : did s.journal ≡ did r.journal ++ line ∷ []
-  pub work : work_of (stage_of s) ≤ work_of (stage_of r) + 832
+  pub work : work_of (stage_of s) ≤ work_of (stage_of r) + most_added
 
 -- a write executes nothing
 settled_retired : (o : Opening) (s t : State) (q : Option Poke) → poked_after o s q ≡ Some t → t.retired ≡ s.retired
@@ -282,7 +282,7 @@ does_say r s line answer f g m =
     let retired : s.retired ≡ r.retired = settled_retired r.opening done (seen s) done.pending m.seen ∙ done_retired r.opening (seen r) line in
     let run = few_run s g in
     let few = few_moves s g in
-    let P : Opening → Type 0 = λ o. 49 * (o.settings.budget - s.retired) + (49 * running (seen s).harts + moves s.minds) ≤ work_of (stage_of r) + 832 in
+    let P : Opening → Type 0 = λ o. instruction_worth * (o.settings.budget - s.retired) + (instruction_worth * running (seen s).harts + moves s.minds) ≤ work_of (stage_of r) + most_added in
     let after : Leaves r.opening (r.journal ++ Did line ∷ es) (seen s) =
     subst (λ (o : Opening). Leaves o (r.journal ++ Did line ∷ es) (seen s)) m.opening (subst (λ (k : List Entry). Leaves s.opening k (seen s)) m.journal g.sound.leaves) in
     record {

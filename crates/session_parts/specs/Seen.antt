@@ -55,9 +55,17 @@ gap (false ∷ bs) = gap bs + 1
 abbrev pub ahead : List Bool → ℕ → ℕ
 ahead bs next = if any_of (drop next bs) then gap (drop next bs) else ((length bs - next) + 1 + gap bs)
 
--- how much is left to do: 16 harts are picked in vain 33 times at most
+-- how often harts are picked in vain at most, one after another: the last of 16 was picked, none is, then all are
+abbrev pub most_picks : ℕ
+most_picks = 33
+
+-- what each part of a session's work counts beside the picks: more than all that come before it in vain
+abbrev pub work_worth : ℕ
+work_worth = 34
+
+-- how much is left to do
 abbrev pub work : {W : Type 0} → Seen W → ℕ
-work s = 34 * session_work s.status s.run s.input + min 33 (ahead (movers s.run) s.next)
+work s = work_worth * session_work s.status s.run s.input + min most_picks (ahead (movers s.run) s.next)
 
 -- A step that got on leaves less to do. One that didn't left all as it was, where this holds.
 abbrev pub GotOn : {W : Type 0} → Bool → Seen W → Seen W → Bool → Type 0

@@ -51,9 +51,21 @@ abbrev pub moves : List Mind → ℕ
 moves [] = 0
 moves (x ∷ xs) = moves_left x + moves xs
 
--- how much the harts can still do; 16 harts have 48 such moves at most
+-- the most such moves of 16 harts, three of each
+abbrev pub most_moves : ℕ
+most_moves = 48
+
+-- what an instruction counts in the work that is left: more than all moves that it may bring with it
+abbrev pub instruction_worth : ℕ
+instruction_worth = 49
+
+-- what a line may add to it: 16 harts run, with all their moves
+abbrev pub most_added : ℕ
+most_added = 832
+
+-- how much the harts can still do: instructions of the budget, harts that stop, and moves
 abbrev pub work_of : Stage → ℕ
-work_of r = 49 * (r.opening.settings.budget - r.state.retired) + (49 * running r.state.harts + moves r.minds)
+work_of r = instruction_worth * (r.opening.settings.budget - r.state.retired) + (instruction_worth * running r.state.harts + moves r.minds)
 
 -- whether a hart can be moved, whatever stands at its pc
 abbrev pub moves_at : Stage → ℕ → Bool

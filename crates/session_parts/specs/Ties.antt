@@ -139,10 +139,18 @@ pub record IsTied (s : Option Status) (t : Told) (r : Stage) (i : Taken) : Type 
   pub written : IfSome t.written (λ written. Written s written (lines_by r))
   pub cause : Cause s t r i
 
--- how much a session can still do
+-- what a byte that was taken counts, which may be a line: more than a line adds to the work of the harts
+abbrev pub byte_worth : ℕ
+byte_worth = 833
+
+-- what a byte that may still come counts: to take it leaves less to do
+abbrev pub coming_worth : ℕ
+coming_worth = 834
+
+-- how much a session can still do: its end, the work of the harts, the bytes that it has and may get, and the end of the input
 abbrev pub session_work : Option Status → Stage → Taken → ℕ
 session_work (Some s) r i = 0
-session_work None r i = 1 + work_of r + 833 * length i.rest + 834 * (limits.input - i.count) + cond i.ended 0 1
+session_work None r i = 1 + work_of r + byte_worth * length i.rest + coming_worth * (limits.input - i.count) + cond i.ended 0 1
 
 -- A poll takes at most 4096 bytes, and none after the most.
 abbrev pub IsCounted : Option Status → ℕ → Type 0
