@@ -197,8 +197,8 @@ impl Engine {
         count_running(self.minds.as_slice())
     }
 
-    /// The next running hart round the harts that has no job out: the least at or above the number, else the least of all.
-    /// `out` marks the harts whose job is out; a hart behind its end has none.
+    /// The next running hart without a job: the first from `from` on, else the first of all. `out` marks the harts whose job is
+    /// out; a hart after its end has none.
     pub fn next_running(&self, from: usize, out: &[bool]) -> Option<u32>
         ensures { result ≡ next_running self.now.minds out.now from }
     {
@@ -300,7 +300,7 @@ impl Engine {
         self.displaced
     }
 
-    /// The bytes from an address on; the first address that can't be read where there is one, and then nothing changed.
+    /// Reads the bytes from an address on. If one can't be read, gives the first such address and leaves `into` as it was.
     pub fn read_range(&self, addr: u32, into: &mut [u8]) -> Result<(), u32>
         ensures bytes { MatchResult result (λ _. bytes_at self.now.machine.memory addr (length into.old) ≡ Some into.new) (λ a. (bytes_at self.now.machine.memory addr (length into.old) ≡ None) × (into.new ≡ into.old)) }
         ensures first { IfErr result (λ at. range_at self.now.machine.memory addr (length into.old) ≡ Err at) }

@@ -41,7 +41,7 @@ use Rattle.engine_parts.proofs.Keeping.{Mover, entered, hart_at}
 use Rattle.engine_parts.proofs.Stepping.{after_one, is_copied, sets_out, ran_of, one_seen, ran_seen, balances, here_none}
 use Rattle.engine_parts.proofs.Holding.{idle_pending}
 
--- an instruction by which harts left, and the entries by which that is reported
+-- an instruction by which harts left, and the journal's entries of that
 pub record Departs (r n : Engine) (h code : ℕ) (lefts : List Entry) : Type 0 where
   pub facts : Sound n
   pub leavers : Leavers r h (length lefts) code

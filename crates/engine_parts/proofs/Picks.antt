@@ -4,7 +4,7 @@ use Rattle.std.specs.Prelude.{Option, Some, None, find, nat_le, not, ◌&&◌, i
 use Rattle.engine_parts.specs.declared.mind.Mind.{Mind}
 use Rattle.engine_parts.specs.Steps.{NoneOut, is_out, least_running, next_running, running_harts, some_or}
 
--- the least running hart at or above a number, whosever jobs are out
+-- the first running hart from a number on; one whose job is out counts too
 abbrev pub least_of_all : List Mind → ℕ → Option ℕ
 least_of_all xs from = find (nat_le from) (running_harts 0 xs)
 

@@ -154,7 +154,7 @@ pub record Plants (old new : Engine) (h : ℕ) : Type 0 where
   pub ran : mind.phase ≡ phase.Ran home
   pub rephases : Rephases old new h mind phase.Idle None
 
--- one instruction of a hart: one step of the machine
+-- hart h executes one instruction, in its place or as a copy: one step of the machine
 pub record Instruction (s : Stepped) (old : Engine) (h : ℕ) : Type 0 where
   pub mind : Mind
   pub at : slice_get old.minds h ≡ Some mind
@@ -183,7 +183,7 @@ pub record Homed (s : Stepped) (old new : Engine) (h : ℕ) (by : Instruction s 
   pub patched : new.machine ≡ record home { text = new.machine.text }
   pub minds : new.minds ≡ left_minds s h (ran_by old h by.hart by.machine.memory by.mind) old.minds
 
--- between an instruction and the exits by it so many harts are leaving, with this code; it wrote nothing
+-- between an instruction and the exits by it `count` harts are leaving, with this code; it wrote nothing
 pub record Leavers (old : Engine) (h count code : ℕ) : Type 0 where
   pub between : State
   pub one : one old.opening h (seen old) ≡ Some between
@@ -192,7 +192,7 @@ pub record Leavers (old : Engine) (h count code : ℕ) : Type 0 where
   pub codes : LeaveWith code between.harts
   pub counted : length (lefts_from 0 between.harts) ≡ count
 
--- one instruction of a hart by which so many harts left, with this code, and the journal notes each
+-- an instruction of hart h by which `count` harts exit with this code, each with an entry of the journal
 pub record Exits (s : Stepped) (old new : Engine) (h count code : ℕ) : Type 0 where
   pub by : Instruction s old h
   pub homed : Homed s old new h by

@@ -44,8 +44,8 @@ abbrev pub is_home : Option Hold → ℕ → Bool
 is_home None a = false
 is_home (Some d) a = d.home == a
 
--- what patches are wanted for: the breakpoints that the user set, and for each hart where it waits for a return; and the
--- one that is lifted
+-- what decides which words are EBREAK: the breakpoints that the user set, the return address that each hart waits for, and the
+-- patch that is lifted
 pub record Wants : Type 0 where
   pub entries : List BreakEntry
   pub waits : List (Option ℕ)
@@ -101,6 +101,8 @@ pub record HasSlot (minds : List Mind) (k slot : ℕ) : Type 0 where
   pub at : slice_get minds k ≡ Some mind
   pub has : slot_of mind.phase ≡ Some slot
 
+-- The facts of each hart beside its core. A patch is lifted for a hart that there is, and each slot that is out belongs to a hart
+-- that is in it.
 pub record Harts (p : Program) (cores : List Core) (slots : List (Option SlotUse)) (minds : List Mind) (hold : Option Hold) : Type 0 where
   pub len : length cores ≡ length minds
   pub each : (h : ℕ) (c : Core) (x : Mind) → slice_get cores h ≡ Some c → slice_get minds h ≡ Some x → HartFact p slots hold h c x
@@ -167,6 +169,7 @@ pub record Sound (r : Engine) : Type 0 where
   pub retired : Retired r.machine.cores r.journal
   pub copied : AreCopied r.opening.settings.slots r.machine.cores r.minds r.displaced (seen r).passed (seen r).sets
 
+-- what the type of an engine keeps
 pub record Facts (r : Engine) : Type 0 where
   pub sound : Sound r
   -- each hart waits where its plan has it wait

@@ -18,7 +18,7 @@ use Rattle.watch_points.specs.Watches.{fired_by}
 use Rattle.engine_parts.specs.declared.going.Surroundings.{Surroundings}
 use Rattle.step_plans.specs.declared.plan.Plan.{Plan}
 
--- an instruction in its place, or over a planted word by a copy
+-- how an instruction was executed: in its place, or, where a breakpoint is planted, as a copy in a slot
 pub data Way : Type 0 where
   InPlace : Way
   ByCopy : Way

@@ -47,12 +47,12 @@ pub record OneSlot (old new : List (Option SlotUse)) (slot : ℕ) (to : Option S
   pub here : use_at new slot ≡ to
   pub others : (s : ℕ) → (slot ≡ s → ⊥) → use_at new s ≡ use_at old s
 
--- the slots after a hart gave its own back
+-- a hart gave its slot back
 pub record Frees (old new : List (Option SlotUse)) (slot : ℕ) : Type 0 where
   pub one : OneSlot old new slot None
   pub len : length new ≡ length old
 
--- the slots after a hart took one for a word
+-- hart h took a free slot, for a copy of this word
 pub record Takes (old new : List (Option SlotUse)) (h slot word : ℕ) : Type 0 where
   pub was : use_at old slot ≡ None
   pub one : OneSlot old new slot (Some (record { hart = h; word = word }))
@@ -73,7 +73,7 @@ pub record IsHome (p : Program) (c : Core) (x : Mind) (d : Core) : Type 0 where
   pub copied : d.copied ≡ c.copied
   pub entered : d.entered ≡ None
 
--- each hart is home
+-- these cores are the others with each hart out of its slot, as a user sees them
 abbrev pub AreHome : Program → List Core → List Mind → List Core → Type 0
 AreHome p [] xs [] = Unit {0}
 AreHome p [] xs (d ∷ ds) = ⊥

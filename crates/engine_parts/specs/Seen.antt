@@ -80,10 +80,13 @@ hart_waits p x = if is_running x.mode then in_place p (return_of x.course.plan) 
 abbrev pub waits_of : Program → List Hart → List (Option ℕ)
 waits_of p xs = map (hart_waits p) xs
 
--- what the journal alone tells: the bytes that the program wrote, and how often breakpoints were stepped over
+-- what the journal alone tells
 pub record Told : Type 0 where
+  -- the bytes that the program wrote
   pub out : List ℕ
+  -- for each hart, how many instructions it executed at an enabled breakpoint while displaced stepping wasn't off
   pub passed : List ℕ
+  -- how many lines switched displaced stepping on
   pub sets : ℕ
 
 abbrev pub told_of : State → Told

@@ -32,7 +32,7 @@ is_quiet (turned.Moved move.Fixed) = true
 is_quiet (turned.Moved move.Planted) = true
 is_quiet _ = false
 
--- a turn of hart h with an answer that fits, from an engine of which P holds
+-- hart h takes one more turn, with an answer that fits, after an engine of which P holds
 pub record ThenTurns (P : Engine → Type 0) (Fits : Engine → Turned → Type 0) (new : Engine) (h : ℕ) : Type 0 where
   pub run : Engine
   pub before : P run

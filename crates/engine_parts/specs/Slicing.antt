@@ -21,7 +21,8 @@ use Rattle.engine_parts.specs.Movers.{is_free, is_idle}
 use Rattle.engine_parts.specs.Seen.{Engine, seen}
 use Rattle.engine_parts.specs.Several.{AllRan}
 
--- a plan that looks at no arrival, but for a return at a word that is planted for it
+-- whether slices may run under a plan: nothing is to be asked between two instructions, since a plan that waits for a return has its
+-- EBREAK there
 abbrev pub takes_slices : Plan → Bool
 takes_slices plans.Free = true
 takes_slices (plans.One over) = false

@@ -32,7 +32,7 @@ stored_at r _ = None
 abbrev pub written : Words → Registers → Option Stored
 written t r = stored_at r (fetched t r.pc)
 
--- a hart may change the bytes of a watch by its next instruction: it writes where an enabled one has its bytes, or is in a slot
+-- whether a hart's next instruction may change the bytes of a watch: it writes where an enabled one has its bytes, or the hart is in a slot
 abbrev pub is_near : Words → Core → List Watch → Bool
 is_near t c [] = false
 is_near t c (w ∷ vs) = is_some c.entered || meets_stored (w ∷ vs) (written t c.regs)

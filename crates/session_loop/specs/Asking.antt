@@ -11,8 +11,8 @@ use Rattle.session_parts.specs.Crew.{Reaches, ServesOnce, is_alone}
 abbrev pub near_of : List ℕ → ℕ → ℕ
 near_of near h = slice_index_or near h 0
 
--- A slice of fewer than 512 instructions is short. Behind a long one the next is handed out. Behind a short one that was handed
--- out the next 63 aren't.
+-- A slice of fewer than 512 instructions is short. After a long slice the next one goes to a worker. After a short one that came
+-- from a worker the session works the next 63 itself.
 abbrev pub near_behind : ℕ → ℕ → ℕ
 near_behind near count = if nat_le 512 count then 0 else if near == 0 then 63 else near - 1
 

@@ -71,7 +71,7 @@ Duties duties.Over p q = (is_some p.status ≡ true) × (q ≡ p)
 Duties duties.Again p q = Goes None p q
 Duties (duties.Job job) p q = Goes (Some job) p q
 
--- a slice is the work of a job, as far as the job goes
+-- a slice is what a worker makes of a job: from the job's registers, the greatest number of instructions up to its limit
 pub record IsWorkOf (job : Job) (slice : Slice) : Type 0 where
   pub hart : slice.hart ≡ job.hart
   pub regs : slice.regs ≡ job.regs
@@ -80,10 +80,11 @@ pub record IsWorkOf (job : Job) (slice : Slice) : Type 0 where
   pub limit : slice.count ≤ job.limit
   pub greatest : (n : ℕ) (r : Registers) → n ≤ job.limit → SliceOf job.regs job.at job.words.items n r → n ≤ slice.count
 
+-- a slice is still good in the session as it is now
 abbrev pub CanTake : Stage → Slice → Type 0
 CanTake r slice = CanTakeIn r.opening r.state r.minds r.hold r.text slice
 
--- the instructions of a slice become moves of its hart, each an instruction, and no line is put
+-- the session does the instructions of a slice one by one, and writes nothing
 pub record Commits (slice : Slice) (p q : Moment) : Type 0 where
   pub can : CanTake p.run slice
   pub moved : Moved (IsStep slice.hart) slice.count slice.hart p q

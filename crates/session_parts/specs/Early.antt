@@ -13,7 +13,7 @@ use Rattle.session_parts.specs.Ties.{IsCut, IsUnread, IsUnpolled}
 use Rattle.session_parts.specs.declared.status.Status.{Status}
 use Rattle.session_parts.specs.declared.status.Status.TheVariants as status
 
--- the text of these lines, which are lines of the grammar, was written; where a put failed, a front of it
+-- the text of these lines, which are lines of the grammar, was written; if a put failed, a prefix of it
 pub record Line (trees : List LineTree) (t : Told) : Type 0 where
   pub grammar : AreLines trees
   pub front : IfSome t.written (λ written. IsCut written (lines_bytes trees))
@@ -23,7 +23,7 @@ pub record Line (trees : List LineTree) (t : Told) : Type 0 where
 abbrev pub Silent : Told → Type 0
 Silent t = IfSome t.written (λ written. written ≡ [])
 
--- the words are served, and the file that was read is the one that they name
+-- the words ask for a session over a file, and that file was read
 pub record IsRead (t : Told) : Type 0 where
   pub name : List ℕ
   pub settings : Settings

@@ -63,14 +63,14 @@ Becomes status.WriteFault before = sums_up before ≡ true
 Becomes status.NoMemory before = Unit {0}
 Becomes s before = s ≡ before
 
--- what it wrote: its summary; a front of that, where a put failed; nothing, where memory ran out
+-- It wrote its summary. If a put failed, it wrote a prefix of that. If memory ran out, it wrote nothing.
 abbrev pub SumsUp : Status → List ℕ → List ℕ → Type 0
 SumsUp status.WriteFault written text = IsCut written text
 SumsUp status.NoMemory written text = written ≡ []
 SumsUp s written text = written ≡ text
 
--- A run of a generated program asks for no input of the world. It puts nothing before it is over, and then its summary, with the
--- status that it had before that was put.
+-- A run of a generated program reads no input. It writes its summary alone, at its end. The summary has the status from before it
+-- was written, since that may fail.
 pub record Summed (number : ℕ) (status : Status) (t : Told) (c : Closed) (s : State) : Type 0 where
   pub unpolled : IsUnpolled t
   pub before : Status

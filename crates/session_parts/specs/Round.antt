@@ -128,12 +128,12 @@ pub record TurnsOne (Fits : Stage → Stage → Type 0) (h : ℕ) (p q : Moment)
   pub after : AfterTurn answer run p.input.count status
   pub is : q ≡ record p { told = told; run = run; status = status }
 
--- so many moves of a hart, each one of these, in a session that goes on before each
+-- n moves of hart h, each of which `Fits` allows; the session goes on before each of them
 abbrev pub Moved : (Stage → Stage → Type 0) → ℕ → ℕ → Moment → Moment → Type 0
 Moved Fits zero h p q = q ≡ p
 Moved Fits (suc n) h p q = (m : Moment) × Moved Fits n h p m × (m.status ≡ None) × TurnsOne Fits h m q
 
--- a hart that was turned while it moves, at most 64 times, each time by the first row that fits
+-- at most 64 moves of hart h, each by the first row that fits: fewer only if it can't be moved any more, or the session is over
 pub record MovesOne (h : ℕ) (p q : Moment) : Type 0 where
   pub count : ℕ
   pub most : count ≤ 64

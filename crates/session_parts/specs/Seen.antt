@@ -22,10 +22,10 @@ pub record Seen (W : Type 0) : Type 0 where
   pub out : List Bool
   -- what is known of the rest of the input
   pub known : Known
-  -- how many more slices of each hart are worked where the words stand
+  -- for each hart, how many of its next slices the session works itself, with no copy for a worker
   pub near : List ℕ
 
--- nothing but perhaps the world changed
+-- all is as it was, except perhaps the world
 pub record Same {W : Type 0} (old new : Seen W) : Type 0 where
   pub run : new.run ≡ old.run
   pub input : new.input ≡ old.input
@@ -51,7 +51,7 @@ gap [] = 0
 gap (true ∷ bs) = 0
 gap (false ∷ bs) = gap bs + 1
 
--- how many harts may be picked in vain, from a place on, before one that can be moved
+-- how many picks from hart `next` on find a hart that can't be moved, before one finds a hart that can
 abbrev pub ahead : List Bool → ℕ → ℕ
 ahead bs next = if any_of (drop next bs) then gap (drop next bs) else ((length bs - next) + 1 + gap bs)
 

@@ -109,7 +109,7 @@ Turns Fits turn.Moved h t u r s = Says t u r s true × Fits r s
 Turns Fits turn.Unput h t u r s = Says t u r s false × Fits r s
 Turns Fits turn.NoMemory h t u r s = Keeps t u r s × ((s ≡ r) ⊎ Fits r s)
 
--- No line came: the journal's cuts at its lines are as they were. It grew only where a hart ran.
+-- No line was done, so the journal has the same lines at the same places. It grew only if a hart ran.
 pub record Goes (r s : Stage) : Type 0 where
   pub lines : did s.journal ≡ did r.journal
   pub through : (n : ℕ) → n ≤ length (did r.journal) → through n s.journal ≡ through n r.journal
@@ -125,7 +125,7 @@ may_take r (line ∷ more) = not (any_runs r.state.harts && is_wait line)
 abbrev pub can_do : Stage → Bool → List ℕ → Bool
 can_do r ended rest = may_take r (lines rest ended)
 
--- a line of the rest was done
+-- the next line of the rest was done; it takes `next` bytes
 pub record DoesLine (ended : Bool) (rest : List ℕ) (next : ℕ) (r s : Stage) : Type 0 where
   pub line : List ℕ
   pub is_next : IsNext ended rest line next

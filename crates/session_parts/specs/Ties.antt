@@ -61,7 +61,7 @@ pub record AllDone (r : Stage) (i : Taken) : Type 0 where
   pub none : lines i.rest true ≡ []
   pub still : any_runs r.state.harts ≡ false
 
--- why a session is over, where so much input was polled
+-- a status and the limit that set it, after so many bytes of input; none, if no limit is reached
 abbrev pub OverBy : Option Status → Stage → ℕ → Type 0
 OverBy None r count = GoesOn r count
 OverBy (Some status.Budget) r count = r.opening.settings.budget ≤ r.state.retired

@@ -24,7 +24,7 @@ pub(super) fn is_idle(phase: Phase) -> bool
     matches!(phase, Phase::Idle)
 }
 
-// Whether nothing is asked of a hart but to go on.
+// Whether a hart just goes on, with no step to end.
 fn is_unplanned(plan: Plan) -> bool
     ensures { result ≡ is_unplanned plan }
 {
@@ -89,7 +89,7 @@ impl Engine {
         }
     }
 
-    // As `run`, of a hart that is to come to no other line.
+    // `run` of a hart that steps to no other line.
     fn run_freely(&mut self, h: u32, mind: Mind, limit: u32) -> u32
         requires hart { h < length self.old.minds }
         requires may { may_go self.old.opening (seen self.old) ≡ true }
@@ -122,7 +122,7 @@ impl Engine {
         progress.turns
     }
 
-    // As `run`, of a hart that is to come to another line than this.
+    // `run` of a hart that steps to another line than this.
     fn run_on_line(&mut self, h: u32, mind: Mind, file: u32, line: u32, limit: u32) -> u32
         requires hart { h < length self.old.minds }
         requires may { may_go self.old.opening (seen self.old) ≡ true }

@@ -44,7 +44,7 @@ impl Engine {
         }
     }
 
-    // What a stop shows of a hart, the last that stopped.
+    // What a stop shows of a hart. It is the last that stopped: `temporary` is of that one.
     fn shown_stop(&self, h: u32, why: Why) -> Result<Shown, NoMemory>
         requires { h < length self.now.minds }
         ensures { IfOk result (λ s. s ≡ Stop (frame_at self.now.sources (seen self.now).harts h) self.now.temporary (stopping_watch self.now.watches why)) }
@@ -63,7 +63,7 @@ impl Engine {
         })
     }
 
-    // What an entry of the last turn shows, by what the engine keeps.
+    // What an entry of the last turn shows, had from the engine in place of a replay.
     fn shown_by(&self, moved: Move, entry: &Entry, last: bool) -> Result<Shown, NoMemory>
         requires { IsMoved (length self.now.minds) entry.now }
         ensures { IfOk result (λ s. s ≡ shown_by self.now moved entry.now last) }

@@ -103,11 +103,11 @@ impl Engine {
         self.machine.stores(slice.at, slice.words.as_slice())
     }
 
-    /// Takes what a hart executed apart from the engine: as many of its instructions are done now, and noted. That may come
-    /// at any time after the job was given; what has changed since is looked at here. Stale exactly where it can't be taken:
-    /// the session is over or has fewer instructions left, the hart isn't there, doesn't run, is in a step over a breakpoint,
-    /// has a plan that looks at each arrival, made a watch fire, has other registers than the slice began with, a word of its window isn't stored
-    /// any more, or a patch is lifted for another hart. A hart that is asked to stop does so behind the slice.
+    /// Does the instructions of a slice that a worker ran, and notes them in the journal. The slice may be of any age: what has
+    /// changed since its job was given is looked at here. `Stale` exactly if one of these holds: the session is over or has
+    /// fewer instructions left; the hart isn't there, doesn't run, is in a step over a breakpoint, has a plan that looks at
+    /// each arrival, made a watch fire, or has other registers than the slice began with; a word of its window isn't stored
+    /// any more; a patch is lifted for another hart. A hart that is asked to stop stops after the slice.
     pub fn commit(&mut self, slice: &Slice) -> Commit
         requires some { 1 ≤ slice.now.count }
         requires spare { 32 ≤ self.old.spare }
