@@ -42,11 +42,12 @@ pub fn calls_or_returns(instruction: &Instr) -> bool
     }
 }
 
+// By one comparison: below the start the difference wraps past any size. The size is found once, before a loop.
 #[inline(always)]
 fn is_among(bounds: Bounds, pc: u32) -> bool
     ensures { result ≡ is_among bounds.start bounds.end pc }
 {
-    bounds.start <= u64::from(pc) && u64::from(pc) < bounds.end
+    u64::from(pc).wrapping_sub(bounds.start) < bounds.end.saturating_sub(bounds.start)
 }
 
 // Whether the instruction of an operation calls or returns.
