@@ -66,6 +66,8 @@ pub mod Serving
 pub mod Stretching
 -- What an entry shows, by the state in which it comes.
 pub mod Coming
+-- Which words are jumps.
+pub mod Jumps
 -- Several instructions within a line are turns.
 pub mod LineVerdicts
 pub mod OnLines

@@ -1,8 +1,10 @@
 // A hart that goes on within a line, over the parts of an engine.
-ghost use Rattle.std.specs.Prelude.{◌≡◌, ◌<◌, ◌≤◌, ◌⊎◌, ℕ, length, option_and_then, true};
+ghost use Rattle.std.specs.Prelude.{◌≡◌, ◌<◌, ◌≤◌, ◌⊎◌, ℕ, length, not, option_and_then, true};
+ghost use Rattle.std.specs.Option.{option_map_or};
+ghost use Rattle.rv_decode.specs.Decode.{decode};
+ghost use Rattle.elf32_read.specs.Program.{text_word};
 ghost use Rattle.hart_machine.specs.Running.{HasStopped};
-ghost use Rattle.hart_machine.specs.Within.{HasEnded};
-ghost use Rattle.dbg_model.specs.Judging.{instruction_at};
+ghost use Rattle.hart_machine.specs.Within.{HasEnded, calls_or_returns};
 ghost use Rattle.engine_parts.specs.Staying.{AllStay, EndsLine, came_within, line_view, stays_at};
 ghost use Rattle.engine_parts.specs.Watching.{WritesNear};
 
@@ -10,7 +12,7 @@ use crate::watching::is_near;
 use elf32_read::Image;
 use hart_machine::{Bounds, Machine, Stayed, calls_or_returns};
 use line_index::LineIndex;
-use rv_decode::{Instr, decode};
+use rv_decode::decode;
 use watch_points::WatchList;
 
 /// A hart on a line, and what it meets there.
@@ -24,19 +26,39 @@ pub struct OnLine<'a> {
     pub line: u32,
 }
 
-// The instruction that was noted by its address.
-fn noted_instruction(image: &Image, noted: Option<u32>) -> Option<Instr>
-    ensures { result ≡ option_and_then (instruction_at image.now) noted }
+// The lowest seven bits of the words of JAL and JALR.
+const JAL: u32 = 0x6F;
+
+const JALR: u32 = 0x67;
+
+// The word of the instruction that was noted by its address.
+fn noted_word(image: &Image, noted: Option<u32>) -> Option<u32>
+    ensures { result ≡ option_and_then (text_word image.now) noted }
 {
-    decode(image.text_word(noted?)?)
+    image.text_word(noted?)
+}
+
+// Whether a word neither calls nor returns, if it is an instruction. Only one with the opcode of a jump is decoded.
+#[tactic(auto, using(crate::proofs::Jumps::other_word))]
+fn is_inner(word: u32) -> bool
+    ensures { result ≡ option_map_or (λ i. not (calls_or_returns i)) (decode word) true }
+{
+    let opcode = word % 128;
+    if opcode != JAL && opcode != JALR {
+        return true;
+    }
+    match decode(word) {
+        Some(instruction) => !calls_or_returns(&instruction),
+        None => true,
+    }
 }
 
 /// Whether a hart came to its pc neither by a call nor by a return, by the address that was noted of its instruction.
 pub fn came_within(image: &Image, noted: Option<u32>) -> bool
     ensures { result ≡ came_within image.now noted }
 {
-    match noted_instruction(image, noted) {
-        Some(instruction) => !calls_or_returns(&instruction),
+    match noted_word(image, noted) {
+        Some(word) => is_inner(word),
         None => true,
     }
 }
