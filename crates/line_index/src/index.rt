@@ -11,7 +11,7 @@ use crate::functions::function_starts;
 use crate::marks::{Mark, is_another};
 use crate::names::name_of;
 use crate::ranges::sequence_table;
-use crate::rows::row_in;
+use crate::rows::{begins_another_in, row_in};
 use address_tables::{Entry, value_at};
 use dbg_traits::NoMemory;
 use elf_symbols::{Named, Symbols};
@@ -110,13 +110,13 @@ impl LineIndex {
         ensures none { IfSome result (λ s. (a : ℕ) → s.start ≤ a → a < s.end → begins_another file line self.now a ≡ false) }
         ensures ends { IfNone result (begins_another file line self.now pc ≡ true) }
     {
-        if self.begins_another(pc, file, line) {
-            return None;
-        }
         let span = span_at(&self.sequences, pc);
         match value_at(&self.sequences, u64::from(pc)) {
             Some(number) => {
                 let rows = self.rows.sequence(number as usize).rows;
+                if begins_another_in(rows, pc, file, line) {
+                    return None;
+                }
                 Some(clear_around(rows, Mark::Another { file, line }, pc, span))
             }
             None => Some(span),

@@ -1,11 +1,13 @@
 //! The row of an address among those of a sequence, whose addresses don't fall.
 
-ghost use Rattle.std.specs.Prelude.{◌≡◌, ◌-◌, ◌<◌, Some, false, length, reverse};
+ghost use Rattle.std.specs.Prelude.{◌≡◌, ◌-◌, ◌<◌, Some, false, length, option_and_then, reverse};
 ghost use Rattle.std.specs.List.{slice_index_or};
+ghost use Rattle.std.specs.Option.{option_map_or};
 ghost use Rattle.elf_symbols.specs.Names.{foremost};
 ghost use Rattle.line_rows.specs.RowList.{AreInOrder};
-ghost use Rattle.line_index.specs.Lines.{is_ahead, row_in};
+ghost use Rattle.line_index.specs.Lines.{begins, is_ahead, is_another, row_in};
 
+use crate::marks::is_another;
 use line_rows::Row;
 
 // The last statement among the rows at the address of the last row, which is none itself; without one the last row.
@@ -53,4 +55,15 @@ pub fn row_in(rows: &[Row], pc: u32) -> Option<Row>
 {
     let count = rows.partition_point(|row| row.address <= pc);
     last_of(&rows[..count])
+}
+
+/// Whether a statement of another line than this, or of another file, begins at an address.
+pub fn begins_another_in(rows: &[Row], pc: u32, file: u32, line: u32) -> bool
+    requires { AreInOrder rows.now }
+    ensures { result ≡ option_map_or (is_another file line) (option_and_then (begins pc) (row_in pc rows.now)) false }
+{
+    match row_in(rows, pc) {
+        Some(row) if row.address == pc && row.is_stmt => is_another(&row, file, line),
+        _ => false,
+    }
 }
