@@ -1,32 +1,19 @@
 -- The operations of words side by side.
-use Rattle.std.proofs.Common.{◌≡◌, ℕ, suc, ◌+◌, ◌*◌, ◌^◌, ◌<◌, ◌≤◌, List, [], ◌∷◌, length, map, take, drop, refl, ap, sym, ◌∙◌, subst, arith, Some, None}
+use Rattle.std.proofs.Common.{◌≡◌, ℕ, ◌+◌, ◌*◌, ◌^◌, ◌<◌, ◌≤◌, List, length, take, drop, refl, ap, sym, ◌∙◌, subst, arith, Some, None}
 use Rattle.std.specs.Prelude.{IsSome, Option, slice_index, slice_index_or}
-use Rattle.std.specs.Option.{option_map, option_map_or}
-use Rattle.std.proofs.Math.ListN.{get_or-map}
+use Rattle.std.specs.Option.{option_map}
 use Rattle.rv_exec.specs.declared.operation.Operation.{Operation}
 use Rattle.rv_exec.specs.declared.operation.Operation.TheVariants.{Break}
 use Rattle.text_words.specs.declared.region.Region.{Region}
 use Rattle.text_words.specs.declared.text.TextWords.TheInside.{Inside}
-use Rattle.text_words.specs.declared.fetch.Fetch.{Fetch}
-use Rattle.text_words.specs.declared.fetch.Fetch.TheVariants.{Absent}
 use Rattle.text_words.specs.Words.{Words, fetched, operation_of}
 use Rattle.text_words.specs.Layout.{IsLaid, index, seen}
 use Rattle.text_words.specs.Runs.{AreOperations}
 use Rattle.text_words.proofs.Marks.{fetched_is, shown_is}
 use Rattle.text_words.proofs.Runs.{cut_at, cut_length}
 
-operation_is : (t : Inside) (addr i : ℕ) → IsLaid t → addr < 2 ^ 32 → index t.regions.items addr ≡ Some i → slice_index_or t.operations.items i Break ≡ operation_of (fetched (seen t) addr)
-operation_is t addr i laid low found =
-    ap (λ xs. slice_index_or xs i Break) laid.operations
-    ∙ (get_or-map operation_of t.code.items i Absent
-    ∙ ap operation_of (sym (fetched_is t addr laid low ∙ ap (λ o. option_map_or (λ j. slice_index_or t.code.items j Absent) o Absent) found)))
-
-many_mapped : (code : List Fetch) → length (map operation_of code) ≡ length code
-many_mapped [] = refl
-many_mapped (f ∷ fs) = ap suc (many_mapped fs)
-
-pub many_operations : (t : Inside) → IsLaid t → length t.operations.items ≡ length t.words.items
-many_operations t laid = ap length laid.operations ∙ (many_mapped t.code.items ∙ laid.whole)
+operation_is : (t : Inside) (addr i : ℕ) → IsLaid t → addr < 2 ^ 32 → index t.regions.items addr ≡ Some i → i < length t.words.items → slice_index_or t.operations.items i Break ≡ operation_of (fetched (seen t) addr)
+operation_is t addr i laid low found few = laid.operations.each i few ∙ ap operation_of (sym (fetched_is t addr i low found))
 
 some_mapped : (o : Option ℕ) (words : List ℕ) (i : ℕ) → o ≡ Some i → IsSome (option_map (slice_index words) o)
 some_mapped None words i e = cc
@@ -35,7 +22,7 @@ some_mapped (Some j) words i e = refl
 cut_operations : (t : Inside) (addr first count : ℕ) → IsLaid t → first + count ≤ length t.words.items → ((k : ℕ) → k < count → addr + 4 * k < 2 ^ 32)
     → ((k : ℕ) → k < count → index t.regions.items (addr + 4 * k) ≡ Some (first + k)) → AreOperations (seen t) addr (take count (drop first t.operations.items))
 cut_operations t addr first count laid few low found =
-    let many : length (take count (drop first t.operations.items)) ≡ count = cut_length t.operations.items first count (omega (arith, few, many_operations t laid)) in
+    let many : length (take count (drop first t.operations.items)) ≡ count = cut_length t.operations.items first count (omega (arith, few, laid.operations.whole)) in
     record {
       low = λ k l. low k (omega (arith, l, many));
       there = λ k l.
@@ -43,7 +30,7 @@ cut_operations t addr first count laid few low found =
           subst IsSome (sym (shown_is t (addr + 4 * k) (low k less))) (some_mapped (index t.regions.items (addr + 4 * k)) t.words.items (first + k) (found k less));
       are = λ k l.
           let less : k < count = omega (arith, l, many) in
-          cut_at t.operations.items first count k Break less ∙ operation_is t (addr + 4 * k) (first + k) laid (low k less) (found k less);
+          cut_at t.operations.items first count k Break less ∙ operation_is t (addr + 4 * k) (first + k) laid (low k less) (found k less) (omega (arith, less, few));
     }
 
 -- the same where the text and its lists are known by other names

@@ -1,24 +1,21 @@
 -- Stored words of text side by side.
-use Rattle.std.proofs.Common.{◌≡◌, ℕ, zero, suc, ◌+◌, ◌-◌, ◌*◌, ◌/◌, ◌%◌, ◌^◌, ◌<◌, ◌≤◌, List, length, drop, take, refl, ap}
-use Rattle.std.proofs.Common.{sym, ◌∙◌, subst, arith, Bool, true, false, not, nat_eq, cond, Some, None, Option, length-drop, length-take-le, inl, inr, true≢false}
-use Rattle.std.specs.Prelude.{slice_get, slice_index, slice_index_or, IsSome, ◌==◌, if◌then◌else◌}
-use Rattle.std.specs.Option.{option_map, option_map_or}
+use Rattle.std.proofs.Common.{◌≡◌, ℕ, zero, suc, ◌+◌, ◌-◌, ◌*◌, ◌^◌, ◌<◌, ◌≤◌, List, length, drop, take, refl, ap}
+use Rattle.std.proofs.Common.{sym, ◌∙◌, subst, arith, Bool, true, false, not, nat_eq, Some, None, Option, length-drop, length-take-le, inl, inr, true≢false}
+use Rattle.std.specs.Prelude.{slice_get, slice_index, slice_index_or, IsSome, if◌then◌else◌}
+use Rattle.std.specs.Option.{option_map}
 use Rattle.std.specs.Cmp.Lexicographic.{pointwise, same_text, other_text}
 use Rattle.std.proofs.lemmas.Bool.{cases_lt}
 use Rattle.std.proofs.lemmas.List.{ext_get_or, get_or-drop, get_or-take}
 use Rattle.std.proofs.lemmas.Option.{slice_get-get_or, get_or_from_slice_get}
-use Rattle.rv_decode.specs.declared.instr.Instr.{Instr}
-use Rattle.rv_decode.specs.Decode.{decode}
 use Rattle.text_words.specs.declared.region.Region.{Region}
 use Rattle.text_words.specs.declared.region.Span.{Span}
 use Rattle.text_words.specs.declared.text.TextWords.TheInside.{Inside}
 use Rattle.text_words.specs.declared.fetch.Fetch.{Fetch}
-use Rattle.text_words.specs.declared.fetch.Fetch.TheVariants.{Absent}
-use Rattle.text_words.specs.Words.{Words, AreStored, IsAmong, IsStoredAt, shown, stored, stored_as, is_planted, fetched_as, decoded_as, ebreak}
-use Rattle.text_words.specs.Layout.{IsLaid, index, seen, word_at}
+use Rattle.text_words.specs.Words.{Words, AreStored, IsAmong, IsStoredAt, shown, stored, stored_as, is_planted, fetched_as, ebreak}
+use Rattle.text_words.specs.Layout.{IsLaid, entry, index, seen, word_at}
 use Rattle.text_words.specs.Runs.{IsRun}
 use Rattle.text_words.proofs.Below.{word_above}
-use Rattle.text_words.proofs.Marks.{shown_is, fetched_is}
+use Rattle.text_words.proofs.Marks.{shown_is, fetched_is, stored_entry}
 
 -- ---- the run that they are
 
@@ -32,27 +29,21 @@ cut_at xs first count k d l = get_or-take count (drop first xs) k d l ∙ get_or
 pub cut : {A : Type 0} (xs ys : List A) (first count : ℕ) → xs ≡ ys → take (first + count - first) (drop first xs) ≡ take count (drop first ys)
 cut xs ys first count e = ap (λ k. take k (drop first xs)) (let n : first + count - first ≡ count = omega arith in n) ∙ ap (λ zs. take count (drop first zs)) e
 
-of_decoded : (w : ℕ) (o : Option Instr) → stored_as w (decoded_as o) ≡ w
-of_decoded w None = refl
-of_decoded w (Some i) = refl
-
 stored_by : (o : Option ℕ) (b : Bool) (w : ℕ) (f : Fetch) → o ≡ Some w → fetched_as o b ≡ f → option_map (λ v. if b then ebreak else v) o ≡ Some (stored_as w f)
 stored_by None b w f e g = cc
-stored_by (Some v) true w f e g = ap (λ h. Some (stored_as w h)) g
-stored_by (Some v) false w f e g = e ∙ sym (ap Some (ap (stored_as w) (sym g) ∙ of_decoded w (decode v)))
+stored_by (Some v) b w f e g = ap Some (stored_entry v b) ∙ (ap (λ x. Some (stored_as v x)) g ∙ ap (option_map (λ x. stored_as x f)) e)
 
 -- what is stored at the place of an address
 stored_there : (t : Inside) (addr i : ℕ) → IsLaid t → addr < 2 ^ 32 → index t.regions.items addr ≡ Some i → i < length t.words.items → stored (seen t) addr ≡ Some (slice_index t.stored.items i)
 stored_there t addr i laid low found few =
-    stored_by (shown (seen t) addr) (is_planted (seen t) addr) (slice_index t.words.items i) (slice_index_or t.code.items i Absent)
-    (shown_is t addr low ∙ ap (option_map (slice_index t.words.items)) found)
-    (fetched_is t addr laid low ∙ ap (λ o. option_map_or (λ j. slice_index_or t.code.items j Absent) o Absent) found)
-    ∙ ap Some (sym (laid.kept.each i few))
+    stored_by (shown (seen t) addr) (is_planted (seen t) addr) (slice_index t.words.items i) (entry t.words.items t.planted.items i)
+    (shown_is t addr low ∙ ap (option_map (slice_index t.words.items)) found) (fetched_is t addr i low found)
+    ∙ ap Some (sym (laid.stored.each i few))
 
 pub run_of : (t : Inside) (addr first count : ℕ) → IsLaid t → first + count ≤ length t.words.items → ((k : ℕ) → k < count → addr + 4 * k < 2 ^ 32)
     → ((k : ℕ) → k < count → index t.regions.items (addr + 4 * k) ≡ Some (first + k)) → IsRun (seen t) addr (take count (drop first t.stored.items))
 run_of t addr first count laid few low found =
-    let many : length (take count (drop first t.stored.items)) ≡ count = cut_length t.stored.items first count (omega (arith, few, laid.kept.whole)) in
+    let many : length (take count (drop first t.stored.items)) ≡ count = cut_length t.stored.items first count (omega (arith, few, laid.stored.whole)) in
     record {
       low = λ k l. low k (omega (arith, l, many));
       are = λ k l.

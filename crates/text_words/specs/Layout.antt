@@ -1,12 +1,12 @@
 -- Regions of text side by side in one list of words.
-use Rattle.std.specs.Prelude.{◌≡◌, ◌<◌, ◌≤◌, ℕ, ◌+◌, ◌-◌, ◌*◌, ◌/◌, ◌%◌, ◌^◌, ◌==◌, Bool, true, false, ◌⊎◌, List, [], ◌∷◌, ◌++◌, length, map, slice_index, slice_index_or, Option, Some, None, if◌then◌else◌}
+use Rattle.std.specs.Prelude.{◌≡◌, ◌<◌, ◌≤◌, ℕ, ◌+◌, ◌-◌, ◌*◌, ◌/◌, ◌%◌, ◌^◌, ◌==◌, Bool, false, ◌⊎◌, List, [], ◌∷◌, ◌++◌, length, slice_index, slice_index_or, Option, Some, None, if◌then◌else◌}
 use Rattle.std.specs.Option.{option_map, option_map_or}
+use Rattle.rv_exec.specs.declared.operation.Operation.TheVariants.{Break}
 use Rattle.elf32_read.specs.Fields.{spans}
 use Rattle.elf32_read.specs.Program.{Program, text_word}
 use Rattle.text_words.specs.Tables.{words_below, set_below}
 use Rattle.text_words.specs.Words.{Words, IsAmong, fetched_as, operation_of, stored_as}
 use Rattle.text_words.specs.declared.fetch.Fetch.{Fetch}
-use Rattle.text_words.specs.declared.fetch.Fetch.TheVariants.{Absent, Planted, Illegal, Instruction}
 use Rattle.text_words.specs.declared.region.Region.{Region}
 use Rattle.text_words.specs.declared.region.Span.{Span}
 use Rattle.text_words.specs.declared.text.TextWords.TheInside.{Inside}
@@ -85,36 +85,25 @@ pub record IsSpan (rs : List Region) (len : ℕ) (s : Span) : Type 0 where
 abbrev pub AreSpans : List Region → ℕ → List Span → Type 0
 AreSpans rs len ss = (k : ℕ) (d : Span) → k < length ss → IsSpan rs len (slice_index_or ss k d)
 
--- what stands at an address, by the entry at its place
-abbrev pub entry_at : List Region → List Fetch → ℕ → Fetch
-entry_at regions code addr = option_map_or (λ i. slice_index_or code i Absent) (index regions addr) Absent
-
-abbrev pub is_mark : Fetch → Bool
-is_mark Planted = true
-is_mark Absent = false
-is_mark Illegal = false
-is_mark (Instruction i) = false
-
 -- whether a breakpoint stands there
-abbrev pub mark_at : List Region → List Fetch → ℕ → Bool
-mark_at regions code addr = is_mark (entry_at regions code addr)
+abbrev pub mark_at : List Region → List Bool → ℕ → Bool
+mark_at regions planted addr = option_map_or (λ i. slice_index_or planted i false) (index regions addr) false
 
 abbrev pub seen : Inside → Words
-seen t = record { words = words_below (word_at t.regions.items t.words.items) (2 ^ 32); planted = set_below (mark_at t.regions.items t.code.items) (2 ^ 32) }
+seen t = record { words = words_below (word_at t.regions.items t.words.items) (2 ^ 32); planted = set_below (mark_at t.regions.items t.planted.items) (2 ^ 32) }
 
--- the entry of each word is a breakpoint, or the word decoded
-abbrev pub AreEntries : List ℕ → List Fetch → Type 0
-AreEntries words code = (k : ℕ) → k < length words → slice_index_or code k Absent ≡ fetched_as (Some (slice_index words k)) (is_mark (slice_index_or code k Absent))
+-- what stands at each word for a hart
+abbrev pub entry : List ℕ → List Bool → ℕ → Fetch
+entry words planted k = fetched_as (Some (slice_index words k)) (slice_index_or planted k false)
 
--- the stored word of each: EBREAK where its entry is a breakpoint
-pub record AreKept (words : List ℕ) (code : List Fetch) (kept : List ℕ) : Type 0 where
+-- what is kept of each word, made of it and of what stands there
+pub record AreKept {A : Type 0} (make : ℕ → Fetch → A) (d : A) (words : List ℕ) (planted : List Bool) (kept : List A) : Type 0 where
   pub whole : length kept ≡ length words
-  pub each : (k : ℕ) → k < length words → slice_index kept k ≡ stored_as (slice_index words k) (slice_index_or code k Absent)
+  pub each : (k : ℕ) → k < length words → slice_index_or kept k d ≡ make (slice_index words k) (entry words planted k)
 
 pub record IsLaid (t : Inside) : Type 0 where
   pub layout : IsLayout t.regions.items (length t.words.items)
-  pub whole : length t.code.items ≡ length t.words.items
-  pub entries : AreEntries t.words.items t.code.items
-  pub kept : AreKept t.words.items t.code.items t.stored.items
-  pub operations : t.operations.items ≡ map operation_of t.code.items
+  pub whole : length t.planted.items ≡ length t.words.items
+  pub stored : AreKept stored_as 0 t.words.items t.planted.items t.stored.items
+  pub operations : AreKept (λ w. operation_of) Break t.words.items t.planted.items t.operations.items
   pub spans : AreSpans t.regions.items (length t.words.items) t.spans.items

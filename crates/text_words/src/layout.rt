@@ -5,13 +5,13 @@ ghost use Rattle.elf32_read.specs.Fields.{u32_at, entries};
 ghost use Rattle.elf32_read.specs.Spans.{Rise};
 ghost use Rattle.elf32_read.specs.TextSpans.{AreAligned, text_spans};
 ghost use Rattle.text_words.specs.Words.{decoded_as, fetched_as, operation_of};
-ghost use Rattle.text_words.specs.Layout.{IsLayout, IsLayoutOf, Opens, index, word_at, entry_at, mark_at};
+ghost use Rattle.text_words.specs.Layout.{IsLayout, IsLayoutOf, Opens, index, word_at, mark_at};
 
 use crate::fetch::Fetch;
 use crate::region::{Region, place_of};
 use elf32_read::fields::u32_at;
 use elf32_read::{Image, Span};
-use rv_decode::{Instr, decode};
+use rv_decode::decode;
 use rv_exec::Operation;
 use std::alloc::{AllocError, Global};
 
@@ -28,30 +28,31 @@ pub fn shown_in(regions: &[Region], words: &[u32], guess: usize, addr: u32) -> O
 
 /// What stands at an address for a hart.
 #[inline(always)]
-pub fn fetch_in(regions: &[Region], code: &[Fetch], guess: usize, addr: u32) -> Fetch
-    requires { IsLayout regions.now (length code.now) }
-    ensures { result ≡ entry_at regions.now code.now addr }
+pub fn fetch_in(
+    regions: &[Region],
+    words: &[u32],
+    planted: &[bool],
+    guess: usize,
+    addr: u32,
+) -> Fetch
+    requires layout { IsLayout regions.now (length words.now) }
+    requires whole { length planted.now ≡ length words.now }
+    ensures { result ≡ fetched_as (word_at regions.now words.now addr) (mark_at regions.now planted.now addr) }
 {
-    match place_of(regions, guess, addr, code.len()) {
-        Some(i) => code[i],
+    match place_of(regions, guess, addr, words.len()) {
+        Some(i) => entry_of(words[i], planted[i]),
         None => Fetch::Absent,
     }
 }
 
 /// Whether a breakpoint stands at an address.
-pub fn planted_in(regions: &[Region], code: &[Fetch], guess: usize, addr: u32) -> bool
-    requires { IsLayout regions.now (length code.now) }
-    ensures { result ≡ mark_at regions.now code.now addr }
+pub fn planted_in(regions: &[Region], planted: &[bool], guess: usize, addr: u32) -> bool
+    requires { IsLayout regions.now (length planted.now) }
+    ensures { result ≡ mark_at regions.now planted.now addr }
 {
-    matches!(fetch_in(regions, code, guess, addr), Fetch::Planted)
-}
-
-fn instruction_or_illegal(instruction: Option<Instr>) -> Fetch
-    ensures { result ≡ decoded_as instruction }
-{
-    match instruction {
-        Some(instruction) => Fetch::Instruction(instruction),
-        None => Fetch::Illegal,
+    match place_of(regions, guess, addr, planted.len()) {
+        Some(i) => planted[i],
+        None => false,
     }
 }
 
@@ -62,7 +63,10 @@ pub fn entry_of(word: u32, planted: bool) -> Fetch
     if planted {
         return Fetch::Planted;
     }
-    instruction_or_illegal(decode(word))
+    match decode(word) {
+        Some(instruction) => Fetch::Instruction(instruction),
+        None => Fetch::Illegal,
+    }
 }
 
 /// Appends the words that the bytes spell, lowest byte first.
@@ -116,24 +120,13 @@ pub fn collect(
     Ok(())
 }
 
-/// The operation of each entry.
-pub fn operations_of(alloc: Global, code: &[Fetch]) -> Result<Vec<Operation>, AllocError>
-    ensures { IfOk result (λ v. v.items ≡ map operation_of code.now) }
+/// The operation of each word, with no breakpoint.
+pub fn operations_of(alloc: Global, words: &[u32]) -> Result<Vec<Operation>, AllocError>
+    ensures { IfOk result (λ v. v.items ≡ map (λ w. operation_of (decoded_as (decode w))) words.now) }
 {
-    let mut operations = Vec::with_capacity(alloc, code.len())?;
-    for entry in code {
-        operations.push(entry.operation())?;
+    let mut operations = Vec::with_capacity(alloc, words.len())?;
+    for word in words {
+        operations.push(entry_of(*word, false).operation())?;
     }
     Ok(operations)
-}
-
-/// The entry of each word, with no breakpoint.
-pub fn decode_all(alloc: Global, words: &[u32]) -> Result<Vec<Fetch>, AllocError>
-    ensures { IfOk result (λ v. v.items ≡ map (λ w. decoded_as (decode w)) words.now) }
-{
-    let mut code = Vec::with_capacity(alloc, words.len())?;
-    for word in words {
-        code.push(instruction_or_illegal(decode(*word)))?;
-    }
-    Ok(code)
 }

@@ -6,7 +6,7 @@ ghost use Rattle.text_words.specs.Runs.{AreOperations, IsRun};
 
 use crate::fetch::Fetch;
 use crate::guesses::Guesses;
-use crate::layout::{collect, decode_all, entry_of, fetch_in, operations_of, planted_in, shown_in};
+use crate::layout::{collect, entry_of, fetch_in, operations_of, planted_in, shown_in};
 use crate::region::{
     OpenRegion, Region, Span, guessed_span, place_of, span_around, span_from, spans_of,
 };
@@ -24,8 +24,8 @@ pub struct TextWords {
     // By their addresses.
     regions: Vec<Region>,
     words: Vec<u32>,
-    // What stands at each word, the patch in its place.
-    code: Vec<Fetch>,
+    // Whether a breakpoint is planted at each word.
+    planted: Vec<bool>,
     // The words with the patches, so that many are copied and compared at once.
     stored: Vec<u32>,
     // The operation of each, that of EBREAK where there is no instruction: a hart that runs looks at nothing else.
@@ -60,15 +60,15 @@ impl TextWords {
         let mut regions = Vec::new(alloc);
         let mut words = Vec::new(alloc);
         collect(image, sections.as_slice(), &mut regions, &mut words)?;
-        let code = decode_all(alloc, words.as_slice())?;
+        let planted = vec![in alloc; false; words.len()]?;
         let stored = words.as_slice().to_vec(alloc)?;
-        let operations = operations_of(alloc, code.as_slice())?;
+        let operations = operations_of(alloc, words.as_slice())?;
         let spans = spans_of(alloc, regions.as_slice(), words.len())?;
         let guesses = Guesses::of(alloc, regions.as_slice())?;
         Ok(TextWords {
             regions,
             words,
-            code,
+            planted,
             stored,
             operations,
             spans,
@@ -207,20 +207,21 @@ impl TextWords {
     {
         planted_in(
             self.regions.as_slice(),
-            self.code.as_slice(),
+            self.planted.as_slice(),
             self.guesses.guess(addr),
             addr,
         )
     }
 
-    /// What stands at an address for a hart that executes it. The words were decoded when they were loaded.
+    /// What stands at an address for a hart that executes it. The program's word is decoded at each call.
     #[inline(always)]
     pub fn fetch(&self, addr: u32) -> Fetch
         ensures { result ≡ fetched self.now addr }
     {
         fetch_in(
             self.regions.as_slice(),
-            self.code.as_slice(),
+            self.words.as_slice(),
+            self.planted.as_slice(),
             self.guesses.guess(addr),
             addr,
         )
@@ -240,7 +241,7 @@ impl TextWords {
         let entry = entry_of(word, planted);
         self.stored[i] = stored_word(word, &entry);
         self.operations[i] = entry.operation();
-        self.code[i] = entry;
+        self.planted[i] = planted;
     }
 
     /// Plants a breakpoint at a word of text that has none.

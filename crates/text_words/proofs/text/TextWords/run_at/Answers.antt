@@ -14,11 +14,11 @@ returns-clause-found c =
     let s = c.span_from-span.result in
     let few : s.first + s.count ≤ length c.self.inside.words.items = omega (arith, c.span_from-span.ensures.within, c.len.ensures, c.self.inside.words.ok.0) in
     some_there c.self.inside c.args.self.now c.args.addr s.first s.count c.as_slice.result.now c.as_slice-2.result.now c.self.inside.stored.items c.self.view_is c.self.invariant c.as_slice.ensures.value c.ranges.addr.fits
-    few c.self.invariant.kept.whole c.span_from-span.ensures.ends c.as_slice-2.ensures.value
+    few c.self.invariant.stored.whole c.span_from-span.ensures.ends c.as_slice-2.ensures.value
 
 pub returns-clause-ends : goal.returns-clause-ends
 returns-clause-ends c =
     let s = c.span_from-span.result in
     let few : s.first + s.count ≤ length c.self.inside.words.items = omega (arith, c.span_from-span.ensures.within, c.len.ensures, c.self.inside.words.ok.0) in
     ends_there c.self.inside c.args.self.now c.args.addr s.first s.count c.as_slice.result.now c.as_slice-2.result.now c.self.inside.stored.items c.self.view_is c.self.invariant c.as_slice.ensures.value
-    few c.self.invariant.kept.whole c.span_from-span.ensures.ends c.as_slice-2.ensures.value
+    few c.self.invariant.stored.whole c.span_from-span.ensures.ends c.as_slice-2.ensures.value
