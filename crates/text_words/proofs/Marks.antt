@@ -24,7 +24,7 @@ some_of_test false o i e = absurd (cc)
 zero_test : (a : ℕ) → (a == 0) ≡ true → a ≡ 0
 zero_test a e = grind (arith, nat_tests)
 
-index_range : (rs : List Region) (end addr i : ℕ) → Laid 0 rs end → index rs addr ≡ Some i → i < end
+pub index_range : (rs : List Region) (end addr i : ℕ) → Laid 0 rs end → index rs addr ≡ Some i → i < end
 unfolding index
 index_range rs end addr i h e = (place_range rs 0 end addr i h (some_of_test (addr % 4 == 0) (place rs addr) i e).1).1
 

@@ -1,19 +1,28 @@
 -- The operations of words side by side.
 use Rattle.std.proofs.Common.{◌≡◌, ℕ, ◌+◌, ◌*◌, ◌^◌, ◌<◌, ◌≤◌, List, length, take, drop, refl, ap, sym, ◌∙◌, subst, arith, Some, None}
 use Rattle.std.specs.Prelude.{IsSome, Option, slice_index, slice_index_or}
-use Rattle.std.specs.Option.{option_map}
+use Rattle.std.specs.Option.{option_map, option_map_or}
 use Rattle.rv_exec.specs.declared.operation.Operation.{Operation}
 use Rattle.rv_exec.specs.declared.operation.Operation.TheVariants.{Break}
 use Rattle.text_words.specs.declared.region.Region.{Region}
 use Rattle.text_words.specs.declared.text.TextWords.TheInside.{Inside}
-use Rattle.text_words.specs.Words.{Words, fetched, operation_of}
-use Rattle.text_words.specs.Layout.{IsLaid, index, seen}
+use Rattle.text_words.specs.Words.{Words, fetched, fetched_as, is_planted, operation_of}
+use Rattle.text_words.specs.Layout.{IsLaid, index, operation_at, seen}
 use Rattle.text_words.specs.Runs.{AreOperations}
-use Rattle.text_words.proofs.Marks.{fetched_is, shown_is}
+use Rattle.text_words.proofs.Marks.{fetched_is, index_range, shown_is}
 use Rattle.text_words.proofs.Runs.{cut_at, cut_length}
 
 operation_is : (t : Inside) (addr i : ℕ) → IsLaid t → addr < 2 ^ 32 → index t.regions.items addr ≡ Some i → i < length t.words.items → slice_index_or t.operations.items i Break ≡ operation_of (fetched (seen t) addr)
 operation_is t addr i laid low found few = laid.operations.each i few ∙ ap operation_of (sym (fetched_is t addr i low found))
+
+-- the operation at an address, whether a word is there or not
+operation_by : (t : Inside) (addr : ℕ) (o : Option ℕ) → IsLaid t → addr < 2 ^ 32 → index t.regions.items addr ≡ o → option_map_or (λ i. slice_index_or t.operations.items i Break) o Break ≡ operation_of (fetched (seen t) addr)
+operation_by t addr None laid low found =
+    ap operation_of (sym (ap (λ o. fetched_as o (is_planted (seen t) addr)) (shown_is t addr low ∙ ap (option_map (slice_index t.words.items)) found)))
+operation_by t addr (Some i) laid low found = operation_is t addr i laid low found (index_range t.regions.items (length t.words.items) addr i laid.layout.laid found)
+
+pub operation_there : (t : Inside) (addr : ℕ) → IsLaid t → addr < 2 ^ 32 → operation_at t.regions.items t.operations.items addr ≡ operation_of (fetched (seen t) addr)
+operation_there t addr laid low = operation_by t addr (index t.regions.items addr) laid low refl
 
 some_mapped : (o : Option ℕ) (words : List ℕ) (i : ℕ) → o ≡ Some i → IsSome (option_map (slice_index words) o)
 some_mapped None words i e = cc

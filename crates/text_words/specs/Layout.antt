@@ -1,6 +1,7 @@
 -- Regions of text side by side in one list of words.
 use Rattle.std.specs.Prelude.{◌≡◌, ◌<◌, ◌≤◌, ℕ, ◌+◌, ◌-◌, ◌*◌, ◌/◌, ◌%◌, ◌^◌, ◌==◌, Bool, false, ◌⊎◌, List, [], ◌∷◌, ◌++◌, length, slice_index, slice_index_or, Option, Some, None, if◌then◌else◌}
 use Rattle.std.specs.Option.{option_map, option_map_or}
+use Rattle.rv_exec.specs.declared.operation.Operation.{Operation}
 use Rattle.rv_exec.specs.declared.operation.Operation.TheVariants.{Break}
 use Rattle.elf32_read.specs.Fields.{spans}
 use Rattle.elf32_read.specs.Program.{Program, text_word}
@@ -88,6 +89,10 @@ AreSpans rs len ss = (k : ℕ) (d : Span) → k < length ss → IsSpan rs len (s
 -- whether a breakpoint stands there
 abbrev pub mark_at : List Region → List Bool → ℕ → Bool
 mark_at regions planted addr = option_map_or (λ i. slice_index_or planted i false) (index regions addr) false
+
+-- the operation of the word at an address; that of EBREAK where none is
+abbrev pub operation_at : List Region → List Operation → ℕ → Operation
+operation_at regions operations addr = option_map_or (λ i. slice_index_or operations i Break) (index regions addr) Break
 
 abbrev pub seen : Inside → Words
 seen t = record { words = words_below (word_at t.regions.items t.words.items) (2 ^ 32); planted = set_below (mark_at t.regions.items t.planted.items) (2 ^ 32) }

@@ -5,7 +5,7 @@ ghost use Rattle.elf32_read.specs.Fields.{u32_at, entries};
 ghost use Rattle.elf32_read.specs.Spans.{Rise};
 ghost use Rattle.elf32_read.specs.TextSpans.{AreAligned, text_spans};
 ghost use Rattle.text_words.specs.Words.{decoded_as, fetched_as, operation_of};
-ghost use Rattle.text_words.specs.Layout.{IsLayout, IsLayoutOf, Opens, index, word_at, mark_at};
+ghost use Rattle.text_words.specs.Layout.{IsLayout, IsLayoutOf, Opens, index, word_at, mark_at, operation_at};
 
 use crate::fetch::Fetch;
 use crate::region::{Region, place_of};
@@ -42,6 +42,23 @@ pub fn fetch_in(
     match place_of(regions, guess, addr, words.len()) {
         Some(i) => entry_of(words[i], planted[i]),
         None => Fetch::Absent,
+    }
+}
+
+/// The operation at an address: that of EBREAK where no word of text is.
+#[inline(always)]
+pub fn operation_in(
+    regions: &[Region],
+    operations: &[Operation],
+    guess: usize,
+    addr: u32,
+) -> Operation
+    requires { IsLayout regions.now (length operations.now) }
+    ensures { result ≡ operation_at regions.now operations.now addr }
+{
+    match place_of(regions, guess, addr, operations.len()) {
+        Some(i) => operations[i],
+        None => Operation::Break,
     }
 }
 

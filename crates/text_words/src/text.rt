@@ -1,12 +1,14 @@
 // The text of a program, as a type.
 ghost use Rattle.std.specs.Prelude.{◌≡◌, ◌<◌, ◌+◌, ◌*◌, length, true, false, IfOk, IsSome, None, if◌then◌else◌};
 ghost use Rattle.std.specs.FinSet as set;
-ghost use Rattle.text_words.specs.Words.{AreStored, IsAmong, IsStoredAt, unpatched, shown, stored, is_planted, fetched};
+ghost use Rattle.text_words.specs.Words.{AreStored, IsAmong, IsStoredAt, unpatched, shown, stored, is_planted, fetched, operation_of};
 ghost use Rattle.text_words.specs.Runs.{AreOperations, IsRun};
 
 use crate::fetch::Fetch;
 use crate::guesses::Guesses;
-use crate::layout::{collect, entry_of, fetch_in, operations_of, planted_in, shown_in};
+use crate::layout::{
+    collect, entry_of, fetch_in, operation_in, operations_of, planted_in, shown_in,
+};
 use crate::region::{
     OpenRegion, Region, Span, guessed_span, place_of, span_around, span_from, spans_of,
 };
@@ -222,6 +224,19 @@ impl TextWords {
             self.regions.as_slice(),
             self.words.as_slice(),
             self.planted.as_slice(),
+            self.guesses.guess(addr),
+            addr,
+        )
+    }
+
+    /// The operation of what stands at an address for a hart that executes it.
+    #[inline(always)]
+    pub fn operation(&self, addr: u32) -> Operation
+        ensures { result ≡ operation_of (fetched self.now addr) }
+    {
+        operation_in(
+            self.regions.as_slice(),
+            self.operations.as_slice(),
             self.guesses.guess(addr),
             addr,
         )

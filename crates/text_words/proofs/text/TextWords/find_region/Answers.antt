@@ -1,5 +1,5 @@
 use Rattle.std.proofs.Common.{◌+◌, ◌-◌, ◌≤◌, arith, drop, length, take}
-use Rattle.text_words.proofs.Operations.{many_operations, operations_are}
+use Rattle.text_words.proofs.Operations.{operations_are}
 use Rattle.text_words.proofs.Runs.{among_there, cut}
 use Rattle.text_words.proofs.text.TextWords.find_region.Goals as goal
 
@@ -17,4 +17,4 @@ returns-clause-here c =
     let whole = c.span_around-span.ensures in
     let few : s.first + s.count ≤ length c.self.inside.words.items = omega (arith, whole.within, c.len.ensures, c.self.inside.words.ok.0) in
     among_there c.self.inside c.args.self.now c.args.addr s c.as_slice.result.now c.as_slice-2.result.now c.self.inside.operations.items c.self.view_is c.self.invariant c.as_slice.ensures.value c.ranges.addr.fits
-    few (many_operations c.self.inside c.self.invariant) whole.here c.as_slice-2.ensures.value
+    few c.self.invariant.operations.whole whole.here c.as_slice-2.ensures.value
