@@ -44,6 +44,7 @@ pub mod Rows
 pub mod Arrivals
 -- What the machine did in one call is turns, one after the other, and made no watch fire.
 pub mod Nearing
+pub mod Storing
 pub mod Gone
 pub mod Passing
 pub mod Aheads

@@ -1,14 +1,13 @@
 // Watches over the machine: which instructions may change their bytes, and which watch one makes fire.
 ghost use Rattle.std.specs.Prelude.{◌≡◌, ◌<◌, length, slice_get, false, None};
+ghost use Rattle.rv_exec.specs.Operations.{meaning};
 ghost use Rattle.hart_machine.specs.Stepping.{AreCounted, IsByteCode, Steps, has_run};
 ghost use Rattle.hart_machine.specs.declared.hart.Core.{Core};
 ghost use Rattle.watch_points.specs.Watches.{fired_by};
 ghost use Rattle.engine_parts.specs.Watching.{is_near, stored_by, written};
 
 use hart_machine::Machine;
-use rv_decode::Instr;
-use rv_exec::{Regs, Stepped, length_of_store};
-use text_words::Fetch;
+use rv_exec::{Operation, Regs, Stepped};
 use watch_points::{Fired, WatchList};
 
 /// Bytes that an instruction writes.
@@ -27,16 +26,25 @@ pub struct Watched {
     pub fired: Option<Fired>,
 }
 
-// The bytes that an instruction writes; stores and AMOs alone write.
-fn stored_by(instruction: Instr, regs: &Regs) -> Option<Stored>
-    ensures { result ≡ stored_by regs.now instruction }
+// The bytes that an operation writes; stores and AMOs alone write.
+#[inline(always)]
+fn stored_by(operation: Operation, regs: &Regs) -> Option<Stored>
+    ensures { result ≡ stored_by regs.now (meaning operation) }
 {
-    match instruction {
-        Instr::Store { op, rs1, imm, .. } => Some(Stored {
+    match operation {
+        Operation::Sb { rs1, imm, .. } => Some(Stored {
             address: regs.get(rs1.number()).wrapping_add(imm),
-            size: length_of_store(op),
+            size: 1,
         }),
-        Instr::Amo { rs1, .. } => Some(Stored {
+        Operation::Sh { rs1, imm, .. } => Some(Stored {
+            address: regs.get(rs1.number()).wrapping_add(imm),
+            size: 2,
+        }),
+        Operation::Sw { rs1, imm, .. } => Some(Stored {
+            address: regs.get(rs1.number()).wrapping_add(imm),
+            size: 4,
+        }),
+        Operation::Amo { rs1, .. } => Some(Stored {
             address: regs.get(rs1.number()),
             size: 4,
         }),
@@ -48,10 +56,7 @@ fn stored_by(instruction: Instr, regs: &Regs) -> Option<Stored>
 fn written(machine: &Machine, regs: &Regs) -> Option<Stored>
     ensures { result ≡ written machine.now.text regs.now }
 {
-    match machine.fetch(regs.pc()) {
-        Fetch::Instruction(instruction) => stored_by(instruction, regs),
-        Fetch::Absent | Fetch::Planted | Fetch::Illegal => None,
-    }
+    stored_by(machine.operation(regs.pc()), regs)
 }
 
 /// Whether a hart may change the bytes of a watch by its next instruction: it writes where an enabled one has its bytes, or

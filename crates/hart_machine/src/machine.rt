@@ -29,11 +29,11 @@ use data_memory::DataMemory;
 use dbg_traits::{NoMemory, Settings};
 use elf32_read::Image;
 use rv_decode::decode;
-use rv_exec::Stepped;
+use rv_exec::{Operation, Stepped};
 use scratch_slots::{SlotUse, Slots};
 use std::alloc::Global;
 use std::marker::Model;
-use text_words::{Fetch, TextWords};
+use text_words::TextWords;
 
 /// Several harts over one text, one memory and the scratch slots.
 #[derive(Drop)]
@@ -169,11 +169,12 @@ impl Machine {
         self.text.word(addr)
     }
 
-    /// What stands at an address for a hart that executes it and is in no slot.
-    pub fn fetch(&self, addr: u32) -> Fetch
-        ensures { result ≡ text.fetched self.now.text addr }
+    /// The operation of what stands at an address for a hart that executes it and is in no slot: that of EBREAK where a
+    /// breakpoint is planted, and where there is no instruction.
+    pub fn operation(&self, addr: u32) -> Operation
+        ensures { result ≡ text.operation_of (text.fetched self.now.text addr) }
     {
-        self.text.fetch(addr)
+        self.text.operation(addr)
     }
 
     /// Whether these words are stored one after another from an address on: EBREAK where a breakpoint is planted. Nothing
