@@ -1,6 +1,6 @@
 // A turn of a hart and a line of input, over the parts of a session.
 // Where nothing is hot, what is large is dropped by a call of `drop`: the proof then goes through its parts once, not at each such place.
-ghost use Rattle.std.specs.Prelude.{◌≡◌, ◌<◌, ◌≤◌, ◌+◌, ◌++◌, length, OnOk, MatchResult, true};
+ghost use Rattle.std.specs.Prelude.{◌≡◌, ◌<◌, ◌≤◌, ◌+◌, ◌++◌, ◌&&◌, length, OnOk, MatchResult, false, true};
 ghost use Rattle.dbg_model.specs.Lawful.{may_go};
 ghost use Rattle.dbg_model.specs.declared.reply.Reply.{Reply};
 ghost use Rattle.dbg_model.specs.declared.shown.Shown.TheVariants.{Answer};
@@ -12,7 +12,7 @@ ghost use Rattle.mi_reports.specs.Lines.{lines_of, may_show};
 ghost use Rattle.mi_reports.specs.Replies.{reply_lines};
 ghost use Rattle.session_parts.specs.Puts.{PutsLines};
 ghost use Rattle.session_parts.specs.Reported.{AreMoved, Notes, NotesLine, is_last, move_lines, shown_lines};
-ghost use Rattle.session_parts.specs.Stage.{most_added, stage_of, work_of};
+ghost use Rattle.session_parts.specs.Stage.{most_added, moves_at, stage_of, work_of};
 ghost use Rattle.session_parts.specs.Steps.{IsMove, Turns, Goes, Does, Answers};
 ghost use Rattle.session_parts.specs.declared.turn.Turn.TheVariants as turn;
 
@@ -117,6 +117,7 @@ pub fn turn_once<W: World>(
     ensures opening { engine.new.opening ≡ engine.old.opening }
     ensures goes { Goes (stage_of engine.old) (stage_of engine.new) }
     ensures less { result ≡ turn.Moved → work_of (stage_of engine.new) < work_of (stage_of engine.old) }
+    ensures still { result ≡ turn.Stood → (may_go engine.old.opening (seen engine.old) && moves_at (stage_of engine.old) hart) ≡ false }
     ensures turns { Turns (IsMove hart) result hart (W.told world.old) (W.told world.new) (stage_of engine.old) (stage_of engine.new) }
 {
     if engine.reserve_journal(SPARE).is_err() {

@@ -1,27 +1,33 @@
 -- A move of an engine is that of the first row of the table of moves that fits, as its session sees it.
-use Rattle.std.proofs.Common.{◌≡◌, ℕ, true, [], sym, ◌∙◌, subst}
-use Rattle.std.specs.Prelude.{None, Some, slice_get}
+use Rattle.std.proofs.Common.{◌≡◌, ℕ, true, [], sym, ◌∙◌, ap, arith, not, refl, subst}
+use Rattle.std.specs.Prelude.{Option, None, Some, slice_get, ◌&&◌}
 use mathlib.Core.Logic.{inl, inr}
 use mathlib.Core.List.{append-nil}
 use Rattle.dbg_model.specs.declared.entry.Entry.TheVariants.{Stopped}
 use Rattle.dbg_model.specs.declared.entry.Why.{Why}
 use Rattle.dbg_model.specs.declared.entry.Why.TheVariants as whys
 use Rattle.dbg_model.specs.Journals.{last_why, lengthened}
+use Rattle.dbg_model.specs.State.{is_off}
 use Rattle.step_over.specs.declared.phase.Phase.{Phase}
 use Rattle.step_over.specs.declared.phase.Phase.TheVariants as phase
 use Rattle.engine_parts.specs.declared.mind.Mind.{Mind}
 use Rattle.engine_parts.specs.declared.moving.Turned.{Turned}
 use Rattle.engine_parts.specs.declared.moving.Turned.TheVariants as turned
+use Rattle.engine_parts.specs.declared.moving.Standing.{Standing}
+use Rattle.engine_parts.specs.declared.moving.Standing.TheVariants as standing
 use Rattle.engine_parts.specs.declared.moving.Move.{Move}
 use Rattle.engine_parts.specs.declared.moving.Move.TheVariants as move
 use Rattle.engine_parts.specs.Calls as calls
-use Rattle.engine_parts.specs.Calls.{Copies, Fixes, Lifts, Moves, Plants, Turns}
+use Rattle.engine_parts.specs.Calls.{Copies, FindsNone, Fixes, Lifts, Moves, Plants, Stands, Turns}
+use Rattle.engine_parts.specs.Facts.{Facts}
 use Rattle.engine_parts.specs.Rows.{Row, Begins, Counts, Executes, Finishes, row_at, row_of, row_stopped}
 use Rattle.engine_parts.specs.Seen.{Engine}
 use Rattle.engine_parts.specs.Several.{is_quiet}
 use Rattle.engine_parts.proofs.Arrivals.{halts_row, stopped_halts}
-use Rattle.session_parts.specs.Stage.{Stage, first_row, stage_of}
+use Rattle.session_parts.specs.Stage.{Stage, finds_none, first_row, stage_of, stands, stands_by}
 use Rattle.session_parts.specs.Steps.{Adds, IsMove, IsStep, FitsRow, Rephases, hold_in}
+use Rattle.session_parts.proofs.Picking.{out_so}
+use Rattle.session_parts.proofs.Saying.{made_room}
 
 -- the move of this row, which is the first that fits
 at_row : (row : Row) (r s : Stage) (h : ℕ) → row ≡ first_row r h → FitsRow row h r s → IsMove h r s
@@ -39,11 +45,11 @@ rephased r s h x p q at was m = record { mind = x; at = at; was = was; minds = m
 -- a step over a breakpoint begins, or ends
 copies : (r s : Engine) (h : ℕ) → Begins ≡ row_at r h → Copies r s h → IsMove h (stage_of r) (stage_of s)
 copies r s h is d =
-    at_row Begins (stage_of r) (stage_of s) h is (d.home, inr (d.slot, rephased r s h d.mind phase.Idle (phase.Copied d.slot d.home) d.before.at d.before.idle d.rephases))
+    at_row Begins (stage_of r) (stage_of s) h is (d.home, inr (d.slot, d.on, rephased r s h d.mind phase.Idle (phase.Copied d.slot d.home) d.before.at d.before.idle d.rephases))
 
 lifts : (r s : Engine) (h : ℕ) → Begins ≡ row_at r h → Lifts r s h → IsMove h (stage_of r) (stage_of s)
 lifts r s h is d =
-    at_row Begins (stage_of r) (stage_of s) h is (d.home, inl (rephased r s h d.mind phase.Idle (phase.Lifted d.home) d.before.at d.before.idle d.rephases))
+    at_row Begins (stage_of r) (stage_of s) h is (d.home, inl (d.only, rephased r s h d.mind phase.Idle (phase.Lifted d.home) d.before.at d.before.idle d.rephases))
 
 fixes : (r s : Engine) (h : ℕ) → Finishes ≡ row_at r h → Fixes r s h → IsMove h (stage_of r) (stage_of s)
 fixes r s h is d =
@@ -96,3 +102,23 @@ quiet_first (turned.Moved move.AllLeft) r s h quiet is d = cc
 quiet_first (turned.Moved move.Counted) r s h quiet is d = cc
 quiet_first (turned.Moved move.Stopped) r s h quiet is d = cc
 quiet_first (turned.Stood why) r s h quiet is d = cc
+
+-- where a hart wants a copy no slot is free
+none_found : (r : Engine) (h : ℕ) → Facts r → FindsNone r h → finds_none (stage_of r) ≡ true
+none_found r h f d =
+    let out = out_so r.machine.slots (omega (arith, f.sound.slots, d.some)) d.out in
+    ap (λ b. b && not (is_off r.displaced)) out ∙ ap not d.on
+
+stands_first : (t : Standing) (r : Engine) (h : ℕ) (why : Option Why) → Facts r → row_of (turned.Stood t) why ≡ row_at r h → Stands t r h → stands (stage_of r) h ≡ true
+stands_first standing.Over r h why f is d = ap (λ k. stands_by k (finds_none (stage_of r))) (sym is)
+stands_first standing.NotRunning r h why f is d = ap (λ k. stands_by k (finds_none (stage_of r))) (sym is)
+stands_first (standing.Held by) r h why f is d = ap (λ k. stands_by k (finds_none (stage_of r))) (sym is)
+stands_first standing.NoSlot r h why f is d = ap (λ k. stands_by k (finds_none (stage_of r))) (sym is) ∙ none_found r h f d
+
+-- a hart that isn't moved stands, also before room was made
+pub stood_first : (t : Turned) (e r s : Engine) (h : ℕ) → r ≡ record e { spare = r.spare } → Facts e → ((m : Move) → t ≡ turned.Moved m → ⊥)
+    → row_of t (last_why s.journal) ≡ row_at r h → Turns t r s h → stands (stage_of e) h ≡ true
+stood_first (turned.Moved m) e r s h same f stays is d = absurd (stays m refl)
+stood_first (turned.Stood t) e r s h same f stays is d =
+    let P : Engine → Type 0 = λ u. stands (stage_of u) h ≡ true in
+    subst P same (stands_first t r h (last_why s.journal) (made_room e r same f) is d.1)

@@ -3,7 +3,7 @@ use Rattle.std.specs.Prelude.{◌≡◌, ◌⊎◌, ◌<◌, ◌≤◌, ◌+◌,
 use Rattle.dbg_traits.specs.Told.{Told}
 use Rattle.dbg_model.specs.State.{any_runs}
 use Rattle.engine_parts.specs.Steps.{next_running}
-use Rattle.session_parts.specs.Stage.{Stage, moves_at}
+use Rattle.session_parts.specs.Stage.{Stage, stands}
 use Rattle.session_parts.specs.Steps.{IsMove, Turns, Does, Inputs, can_do}
 use Rattle.session_parts.specs.Taking.{has_line}
 use Rattle.session_parts.specs.Ties.{Taken, OverBy}
@@ -133,12 +133,12 @@ abbrev pub Moved : (Stage → Stage → Type 0) → ℕ → ℕ → Moment → M
 Moved Fits zero h p q = q ≡ p
 Moved Fits (suc n) h p q = (m : Moment) × Moved Fits n h p m × (m.status ≡ None) × TurnsOne Fits h m q
 
--- at most 64 moves of hart h, each by the first row that fits: fewer only if it can't be moved any more, or the session is over
+-- at most 64 moves of hart h, each by the first row that fits: fewer only if it stands then, or the session is over
 pub record MovesOne (h : ℕ) (p q : Moment) : Type 0 where
   pub count : ℕ
   pub most : count ≤ 64
   pub moved : Moved (IsMove h) count h p q
-  pub rests : count < 64 → q.status ≡ None → moves_at q.run h ≡ false
+  pub rests : count < 64 → q.status ≡ None → stands q.run h ≡ true
 
 -- the hart that was picked is turned
 abbrev pub MovesBy : Option ℕ → Moment → Moment → Type 0

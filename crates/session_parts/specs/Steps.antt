@@ -13,14 +13,13 @@ use Rattle.dbg_model.specs.declared.entry.Why.{Why}
 use Rattle.dbg_model.specs.declared.entry.Why.TheVariants.{Interrupted, Fault}
 use Rattle.rv_exec.specs.declared.effect.Cause.{Cause}
 use Rattle.dbg_model.specs.declared.hart.Hart.{Hart}
-use Rattle.dbg_model.specs.State.{any_runs}
+use Rattle.dbg_model.specs.State.{any_runs, is_off}
 use Rattle.dbg_model.specs.Reply.{done_by, is_wait}
 use Rattle.dbg_model.specs.declared.reply.Reply.{Reply}
 use Rattle.engine_parts.specs.Seen.{Engine, seen}
 use Rattle.engine_parts.specs.Calls.{pokes_of}
 use Rattle.engine_parts.specs.Calls as calls
 use Rattle.dbg_model.specs.Leaving.{lefts_from}
-use Rattle.dbg_model.specs.Lawful.{may_go}
 use Rattle.dbg_model.specs.Journals.{did, lengthened}
 use Rattle.engine_parts.specs.declared.mind.Hold.{Hold}
 use Rattle.engine_parts.specs.declared.mind.Mind.{Mind}
@@ -30,7 +29,7 @@ use Rattle.step_over.specs.declared.phase.Phase.TheVariants as phase
 use Rattle.session_parts.specs.InTime.{through, until}
 use Rattle.session_parts.specs.Taking.{first_waits, has_line}
 use Rattle.engine_parts.specs.Rows.{Row, Over, Rests, Waits, Finishes, Stops, Counts, Interrupts, Begins, Executes}
-use Rattle.session_parts.specs.Stage.{Stage, first_row, moves_at}
+use Rattle.session_parts.specs.Stage.{Stage, first_row, stands}
 use Rattle.session_parts.specs.declared.turn.Turn.{Turn}
 use Rattle.session_parts.specs.declared.turn.Turn.TheVariants as turn
 use Rattle.session_parts.specs.declared.line.Done.{Done}
@@ -70,9 +69,16 @@ pub record Rephases (h : ℕ) (from to : Phase) (r s : Stage) : Type 0 where
   pub journal : s.journal ≡ r.journal
   pub state : s.state ≡ r.state
 
--- the patch at its pc was lifted, or it entered a slot with a copy
+-- the patch at its pc was lifted, which is done only where displaced stepping is off or there are no slots
+abbrev pub LiftsPatch : ℕ → ℕ → Stage → Stage → Type 0
+LiftsPatch h home r s = (0 < r.opening.settings.slots → is_off r.state.displaced ≡ true) × Rephases h phase.Idle (phase.Lifted home) r s
+
+-- it entered a slot with a copy, which is done only where displaced stepping isn't off
+abbrev pub EntersSlot : ℕ → ℕ → Stage → Stage → Type 0
+EntersSlot h home r s = (slot : ℕ) × (is_off r.state.displaced ≡ false) × Rephases h phase.Idle (phase.Copied slot home) r s
+
 abbrev pub BeginsStep : ℕ → Stage → Stage → Type 0
-BeginsStep h r s = (home : ℕ) × (Rephases h phase.Idle (phase.Lifted home) r s ⊎ ((slot : ℕ) × Rephases h phase.Idle (phase.Copied slot home) r s))
+BeginsStep h r s = (home : ℕ) × (LiftsPatch h home r s ⊎ EntersSlot h home r s)
 
 -- the patch was planted again, or it came home from the slot
 abbrev pub FinishesStep : ℕ → Stage → Stage → Type 0
@@ -104,7 +110,7 @@ IsMove h r s = FitsRow (first_row r h) h r s
 
 -- what a turn of hart h does, in a session that goes on, where a move has to be one of these
 abbrev pub Turns : (Stage → Stage → Type 0) → Turn → ℕ → Told → Told → Stage → Stage → Type 0
-Turns Fits turn.Stood h t u r s = (u ≡ t) × (s ≡ r) × ((may_go r.opening r.state && moves_at r h) ≡ false)
+Turns Fits turn.Stood h t u r s = (u ≡ t) × (s ≡ r) × (stands r h ≡ true)
 Turns Fits turn.Moved h t u r s = Says t u r s true × Fits r s
 Turns Fits turn.Unput h t u r s = Says t u r s false × Fits r s
 Turns Fits turn.NoMemory h t u r s = Keeps t u r s × ((s ≡ r) ⊎ Fits r s)

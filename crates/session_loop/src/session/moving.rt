@@ -1,11 +1,11 @@
 // How a hart is picked and moved.
-ghost use Rattle.std.specs.Prelude.{◌≡◌, ◌<◌, ◌≤◌, length, false, None, is_some, IsTrue, IfSome};
+ghost use Rattle.std.specs.Prelude.{◌≡◌, ◌<◌, ◌≤◌, length, false, true, None, is_some, IsTrue, IfSome};
 ghost use Rattle.std.specs.Bool.{OnFalse};
 ghost use Rattle.engine_parts.specs.Steps.{NoneOut, is_out};
 ghost use Rattle.session_parts.specs.Ties.{session_work};
 ghost use Rattle.session_parts.specs.Seen.{GotOn, HasTurned, no_move};
 ghost use Rattle.session_parts.specs.Round.{Moves, MovesOne, TurnsOne, Moved, moment};
-ghost use Rattle.session_parts.specs.Stage.{moves_at};
+ghost use Rattle.session_parts.specs.Stage.{moves_at, stands};
 ghost use Rattle.session_parts.specs.Steps.{IsMove};
 
 use super::Session;
@@ -24,7 +24,8 @@ impl<W: World> Session<W> {
         ensures same { length self.new.run.minds ≡ length self.old.run.minds }
         ensures opening { self.new.run.opening ≡ self.old.run.opening }
         ensures moves { IsTrue result → TurnsOne (IsMove hart) hart (moment W.told self.old) (moment W.told self.new) }
-        ensures stands { OnFalse result ((moment W.told self.new ≡ moment W.told self.old) × (moves_at self.old.run hart ≡ false)) }
+        ensures stands { OnFalse result ((moment W.told self.new ≡ moment W.told self.old) × (stands self.old.run hart ≡ true)) }
+        ensures still { OnFalse result (moves_at self.old.run hart ≡ false) }
         ensures less { IsTrue result → session_work self.new.status self.new.run self.new.input < session_work self.old.status self.old.run self.old.input }
     {
         match turn_once(&mut self.world, &mut self.engine, hart, &mut self.lines) {
@@ -67,7 +68,7 @@ impl<W: World> Session<W> {
         count
     }
 
-    // Turns a hart while it moves, at most 64 times.
+    // Turns a hart until it stands, at most 64 times.
     fn turn_hart(&mut self, hart: u32)
         requires going { self.old.status ≡ None }
         requires known { hart < length self.old.run.minds }

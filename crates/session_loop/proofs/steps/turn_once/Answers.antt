@@ -6,7 +6,7 @@ use Rattle.session_parts.specs.Reported.{Notes, move_lines}
 use Rattle.session_parts.specs.Stage.{stage_of}
 use Rattle.session_parts.specs.Steps.{lines_by}
 use Rattle.session_parts.proofs.Saying.{moved, stood}
-use Rattle.session_parts.proofs.Firsts.{moved_first}
+use Rattle.session_parts.proofs.Firsts.{moved_first, stood_first}
 use Rattle.session_parts.proofs.Doing.{keeps, says_as}
 use Rattle.session_parts.proofs.Writing.{written_as}
 use Rattle.session_loop.proofs.steps.turn_once.Goals as goal
@@ -14,7 +14,12 @@ use Rattle.session_loop.proofs.steps.turn_once.Goals as goal
 pub returns-in_default-clause-turns : goal.returns-in_default-clause-turns
 returns-in_default-clause-turns g c =
     let d = stood c.turn.result c.args.engine.now c.reserve_journal.new.self c.turn.new.self c.args.hart c.reserve_journal.ensures.same c.requires.facts c.requires.hart c.in_default.not-Moved c.turn.ensures.turns in
-    (refl, d.stage, d.why)
+    let row = stood_first c.turn.result c.args.engine.now c.reserve_journal.new.self c.turn.new.self c.args.hart c.reserve_journal.ensures.same c.requires.facts c.in_default.not-Moved c.turn.ensures.first c.turn.ensures.turns in
+    (refl, d.stage, row)
+
+pub returns-in_default-clause-still : goal.returns-in_default-clause-still
+returns-in_default-clause-still g c =
+    λ _. (stood c.turn.result c.args.engine.now c.reserve_journal.new.self c.turn.new.self c.args.hart c.reserve_journal.ensures.same c.requires.facts c.requires.hart c.in_default.not-Moved c.turn.ensures.turns).why
 
 pub report_move-requires : goal.report_move-requires
 report_move-requires g c =

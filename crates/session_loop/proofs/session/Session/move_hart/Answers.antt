@@ -1,12 +1,12 @@
 use Rattle.std.proofs.Common.{◌≡◌, ◌∙◌, length, subst, refl, ap, arith}
-use Rattle.std.specs.Prelude.{None, Some, false}
+use Rattle.std.specs.Prelude.{None, Some, false, true}
 use Rattle.dbg_model.specs.Lawful.{may_go}
 use Rattle.engine_parts.specs.Seen.{seen}
 use Rattle.session_parts.specs.declared.status.Status.TheVariants as status
 use Rattle.session_parts.specs.declared.turn.Turn.TheVariants as turn
 use Rattle.session_parts.specs.Ties.{IsTied}
 use Rattle.session_parts.specs.Seen.{Seen}
-use Rattle.session_parts.specs.Stage.{stage_of, moves_at}
+use Rattle.session_parts.specs.Stage.{stage_of, moves_at, stands}
 use Rattle.session_loop.specs.SessionInside.{seen_of, taken_of}
 use Rattle.session_parts.specs.Round.{TurnsOne, moment}
 use Rattle.session_parts.specs.Steps.{IsMove}
@@ -129,10 +129,16 @@ pub returns-in-Stood-clause-stands : goal.returns-in-Stood-clause-stands
 returns-in-Stood-clause-stands g c =
     let told = g.W.World.told in
     let p = moment told (seen_of c.self.inside) in
+    let t = c.in-Stood.ensures.turns in
+    let P : Seen g.row.W.Denot → Type 0 = λ s. (record p { told = told c.turn_once.new.world; run = stage_of c.turn_once.new.engine } ≡ moment told s) × (stands s.run c.args.hart ≡ true) in
+    subst P c.self.view_is (same_moment p (told c.turn_once.new.world) (stage_of c.turn_once.new.engine) t.0 t.1, t.2)
+
+pub returns-in-Stood-clause-still : goal.returns-in-Stood-clause-still
+returns-in-Stood-clause-still g c =
+    let told = g.W.World.told in
     let none : c.self.inside.status ≡ None = ap (λ (s : Seen g.row.W.Denot). s.status) c.self.view_is ∙ c.requires.going in
     let h : IsTied None (told c.self.inside.world) (stage_of c.self.inside.engine) (taken_of c.self.inside) = rw (← none) c.self.invariant.0 in
-    let t = c.in-Stood.ensures.turns in
     let e = c.self.inside.engine in
-    let moves = cannot_move (may_go e.opening (seen e)) (moves_at (stage_of e) c.args.hart) (may e c.self.inside.count h.cause.1) t.2 in
-    let P : Seen g.row.W.Denot → Type 0 = λ s. (record p { told = told c.turn_once.new.world; run = stage_of c.turn_once.new.engine } ≡ moment told s) × (moves_at s.run c.args.hart ≡ false) in
-    subst P c.self.view_is (same_moment p (told c.turn_once.new.world) (stage_of c.turn_once.new.engine) t.0 t.1, moves)
+    let moves = cannot_move (may_go e.opening (seen e)) (moves_at (stage_of e) c.args.hart) (may e c.self.inside.count h.cause.1) (c.in-Stood.ensures.still refl) in
+    let P : Seen g.row.W.Denot → Type 0 = λ s. moves_at s.run c.args.hart ≡ false in
+    subst P c.self.view_is moves
