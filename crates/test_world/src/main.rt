@@ -7,6 +7,7 @@
 mod counted;
 mod gated;
 mod harts;
+mod mixed;
 mod names;
 mod rests;
 mod rolled;
@@ -26,6 +27,7 @@ fn answer<R: Threads + Wait + Sync>(rt: &R, alloc: Global, row: &str) -> Result<
         "count" => counted::answer(rt, alloc, rest),
         "gated" => gated::answer(rt, alloc, rest),
         "harts" => harts::answer(rt, alloc),
+        "mixed" => mixed::answer(rt, alloc, rest),
         "asks" => rolled::answer(rt, alloc, rest),
         "rests" => rests::answer(rt, alloc, rest),
         _ => worlds::answer(alloc, word, rest),
