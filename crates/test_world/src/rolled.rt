@@ -8,8 +8,11 @@ use std::sync::{Mutex, Wait};
 use std::thread::Threads;
 use test_rows::{RowFault, number};
 
-/// How many asks are answered with Again while a worker is missing.
+/// How many asks are answered with Again while a worker is missing, by a crew that rests after each.
 const PATIENCE: u32 = 10_000_000;
+
+/// And by one that doesn't, and so is asked again at once.
+const BUSY_PATIENCE: u32 = 1_000_000_000;
 
 /// How many jobs there are.
 const JOBS: u32 = 20;
@@ -17,6 +20,7 @@ const JOBS: u32 = 20;
 // Notes who asks. The first ask of each worker gets Again, and there are no jobs before each of them has asked.
 #[derive(Drop)]
 struct Roll {
+    idle: bool,
     asked: [bool; 16],
     missing: u32,
     patience: u32,
@@ -46,7 +50,7 @@ impl Crew for Roll {
 
     ghost is_over = { λ c. c.over };
 
-    ghost rests = { λ _. true };
+    ghost rests = { λ c. c.idle };
 
     ghost asks = { λ _ _ _. Unit {0} };
 
@@ -103,7 +107,7 @@ impl Crew for Roll {
     }
 
     fn is_idle(&self) -> bool {
-        true
+        self.idle
     }
 }
 
@@ -119,20 +123,23 @@ fn told(alloc: Global, roll: &Roll) -> Result<String, AllocError> {
     format!(in alloc; "{said}asked, {taken} taken")
 }
 
-/// `WORKERS`: who of them asks, by number, and how many jobs are taken.
+/// `WHETHER WORKERS`, of which the first is `idle` or `busy`: who of them asks, by number, and how many jobs are taken.
 pub fn answer<R: Threads + Wait + Sync>(
     rt: &R,
     alloc: Global,
     text: &str,
 ) -> Result<String, RowFault> {
-    let workers = number(text).ok_or(RowFault::Unknown)?;
+    let (which, workers) = text.split_once(' ').ok_or(RowFault::Unknown)?;
+    let workers = number(workers).ok_or(RowFault::Unknown)?;
+    let idle = which == "idle";
     if !(1..=16).contains(&workers) {
         return Err(RowFault::Unknown);
     }
     let crew = Mutex::new(Roll {
+        idle,
         asked: [false; 16],
         missing: workers,
-        patience: PATIENCE,
+        patience: if idle { PATIENCE } else { BUSY_PATIENCE },
         handed: 0,
         taken: 0,
         over: false,
