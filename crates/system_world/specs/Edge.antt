@@ -1,6 +1,7 @@
 -- What is decided at the edge of the system; all of it is this project's own.
-use Rattle.std.specs.Prelude.{◌<◌, ℕ, zero, suc, List, length, take, Option, None, Some, Result, Ok, Err}
+use Rattle.std.specs.Prelude.{◌≡◌, ◌<◌, ℕ, zero, suc, List, [], length, take, Option, None, Some, Result, Ok, Err}
 use Rattle.std.specs.Io.KnownBytes.{Appends, Consumes, IsAtEnd, Keeps}
+use Rattle.std.specs.Global.{Vec}
 use Rattle.std.specs.declared.io.ErrorKind.{ErrorKind}
 use Rattle.std.specs.declared.io.ErrorKind.TheVariants as kind
 use Rattle.dbg_traits.specs.declared.world.FileRead.{FileRead}
@@ -18,6 +19,13 @@ abbrev pub rest_of : ErrorKind → Option ℕ
 rest_of kind.Interrupted = Some 0
 rest_of kind.WouldBlock = Some 1
 rest_of _ = None
+
+-- The command line was not read: it has no words where one isn't UTF-8, and else memory ran out.
+abbrev pub HasNoWords : {E : Type 0} → ErrorKind → Result (Vec (List ℕ)) E → Type 0
+HasNoWords kind.InvalidData (Ok words) = words.items ≡ []
+HasNoWords kind.InvalidData (Err e) = ⊥
+HasNoWords _ (Ok words) = ⊥
+HasNoWords _ (Err e) = Unit {0}
 
 -- a read of the file, by what the system answered
 abbrev pub file_read : {E : Type 0} → Result ℕ E → FileRead

@@ -1,12 +1,14 @@
 // The words of the command line.
-ghost use Rattle.std.specs.Prelude.{◌≡◌, IfOk, drop, map, string_bytes};
+ghost use Rattle.std.specs.Prelude.{◌≡◌, IfOk, MatchResult, drop, map, string_bytes};
+ghost use Rattle.std.specs.IoError.{error_kind};
 ghost use Rattle.std.specs.Vec.Iter.{into_iter_items};
+ghost use Rattle.system_world.specs.Edge.{HasNoWords};
 
 use dbg_traits::{ArgText, NoMemory};
 use std::alloc::Global;
-use std::env;
 use std::env::Args;
 use std::io::ErrorKind;
+use std::{env, io};
 
 // The words behind the first, which is the program's name.
 fn without_name(args: Args) -> Args
@@ -28,15 +30,25 @@ fn words_of(alloc: Global, args: Args) -> Result<Vec<ArgText>, NoMemory>
     Ok(words)
 }
 
+// The words, by what the system gave of them.
+fn words_by(alloc: Global, args: io::Result<Args>) -> Result<Vec<ArgText>, NoMemory>
+    ensures { MatchResult args (λ args. IfOk result (λ words. words.items ≡ map string_bytes (drop 1 (into_iter_items args)))) (λ e. HasNoWords (error_kind e) result) }
+{
+    let error = match args {
+        Ok(args) => return words_of(alloc, args),
+        Err(error) => error,
+    };
+    match error.kind() {
+        ErrorKind::InvalidData => Ok(Vec::new(alloc)),
+        _ => Err(NoMemory),
+    }
+}
+
 /// The words of the command line, without the program's name. Where one isn't UTF-8 there are none, which is refused.
 ///
 /// # Errors
 ///
 /// No memory for the words.
 pub fn words<R: env::Env + Alloc<A = Global>>(rt: &R) -> Result<Vec<ArgText>, NoMemory> {
-    match env::args(rt) {
-        Ok(args) => words_of(rt.alloc(), args),
-        Err(error) if error.kind() == ErrorKind::InvalidData => Ok(Vec::new(rt.alloc())),
-        Err(_) => Err(NoMemory),
-    }
+    words_by(rt.alloc(), env::args(rt))
 }

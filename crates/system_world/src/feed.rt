@@ -146,6 +146,9 @@ impl Feed {
     // Drops the bytes that were polled, so that there is room behind the others.
     fn make_room(&mut self)
         ensures waiting { waiting self.new ≡ waiting self.old }
+        ensures dropped { self.new.polled ≡ 0 }
+        ensures source { self.new.source ≡ self.old.source }
+        ensures asked { self.new.asked ≡ self.old.asked }
     {
         self.bytes.drain(..self.polled);
         self.polled = 0;
@@ -153,7 +156,10 @@ impl Feed {
 
     /// Takes in the first bytes, as many as there is room for, and hands back the others.
     pub fn give<'a>(&mut self, rest: Rest<'a>) -> Rest<'a>
-        ensures { waiting self.new ++ result.bytes.now ≡ waiting self.old ++ rest.entry.bytes.now }
+        ensures given { waiting self.new ++ result.bytes.now ≡ waiting self.old ++ rest.entry.bytes.now }
+        ensures most { length (waiting self.old) < 65536 → 0 < length rest.entry.bytes.now → length result.bytes.now < length rest.entry.bytes.now }
+        ensures source { self.new.source ≡ self.old.source }
+        ensures asked { self.new.asked ≡ self.old.asked }
     {
         if self.bytes.len() >= ROOM {
             self.make_room();
@@ -169,6 +175,7 @@ impl Feed {
         requires { 0 < length into.old }
         ensures within { result ≤ length into.new }
         ensures source { self.new.source ≡ self.old.source }
+        ensures asked { self.new.asked ≡ self.old.asked }
         ensures none { result ≡ 0 → waiting self.old ≡ [] }
         ensures front { waiting self.old ≡ take result into.new ++ waiting self.new }
     {
@@ -184,7 +191,9 @@ impl Feed {
     /// Answers a poll, with the oldest bytes where there are any.
     pub fn answer(&mut self, into: &mut [u8]) -> Polled
         requires { 0 < length into.old }
-        ensures { Answers result into.new self.old self.new }
+        ensures answers { Answers result into.new self.old self.new }
+        ensures source { self.new.source ≡ self.old.source }
+        ensures asked { self.new.asked ≡ self.old.asked }
     {
         let taken = self.take(into);
         self.source.poll_of(taken)

@@ -1,5 +1,5 @@
 // The queue under its lock, and who waits for it.
-ghost use Rattle.std.specs.Prelude.{◌≡◌, ◌<◌, length, nat_le, [], false, true};
+ghost use Rattle.std.specs.Prelude.{◌≡◌, ◌<◌, ◌++◌, length, nat_le, [], false, true};
 ghost use Rattle.std.specs.Sync.Mutex.{mutex_guard_value};
 ghost use Rattle.system_world.specs.RealTold.{PollsWithin};
 ghost use Rattle.system_world.specs.Waiting.{waiting};
@@ -68,14 +68,22 @@ impl Shared {
         Held { shared: self, feed }
     }
 
+    // The queue, and input is asked for.
+    fn ask<R: Wait>(&self, rt: &R) -> Held<'_>
+        ensures { (mutex_guard_value result.feed).asked ≡ true }
+    {
+        let mut held = self.hold(rt);
+        held.feed.ask();
+        held
+    }
+
     /// The oldest bytes of the queue. It waits for one where it may, and else answers at once.
     pub fn poll<R: Wait>(&self, rt: &R, wait: bool, into: &mut [u8]) -> Polled
         requires { 0 < length into.old }
         ensures within { PollsWithin (length into.new) result }
         ensures waits { wait ≡ true → result ≡ NotYet → ⊥ }
     {
-        let mut held = self.hold(rt);
-        held.feed.ask();
+        let mut held = self.ask(rt);
         if wait {
             held = held.grown(rt);
         }
@@ -97,6 +105,7 @@ impl<'a> Held<'a> {
 
     // The queue, once something waits in it or no more comes.
     fn grown<R: Wait>(self, rt: &R) -> Held<'a>
+        requires { (mutex_guard_value self.feed).asked ≡ true }
         ensures { waiting (mutex_guard_value result.feed) ≡ [] → (mutex_guard_value result.feed).source ≡ Source.Open → ⊥ }
     {
         let shared = self.let_go();
@@ -107,12 +116,17 @@ impl<'a> Held<'a> {
     }
 
     /// The queue takes in the first bytes, as many as there is room for, and hands back the others.
-    pub fn give<'b>(&mut self, rest: Rest<'b>) -> Rest<'b> {
+    pub fn give<'b>(&mut self, rest: Rest<'b>) -> Rest<'b>
+        ensures given { waiting (mutex_guard_value self.new.feed) ++ result.bytes.now ≡ waiting (mutex_guard_value self.old.feed) ++ rest.entry.bytes.now }
+        ensures source { (mutex_guard_value self.new.feed).source ≡ (mutex_guard_value self.old.feed).source }
+    {
         self.feed.give(rest)
     }
 
     /// No more input comes.
-    pub fn end(&mut self, source: Source) {
+    pub fn end(&mut self, source: Source)
+        ensures { mutex_guard_value self.new.feed ≡ record (mutex_guard_value self.old.feed) { source = source } }
+    {
         self.feed.end(source);
     }
 }
