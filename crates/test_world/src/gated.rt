@@ -9,6 +9,9 @@ use std::sync::{Mutex, Wait};
 use std::thread::Threads;
 use test_rows::{RowFault, number};
 
+// The hart of all jobs. It isn't the number of the worker.
+const HART: u32 = 7;
+
 // Hands out so many jobs before it is over, and counts those that are worked.
 #[derive(Drop)]
 struct Marked<'a> {
@@ -44,7 +47,7 @@ impl<'a> Crew for Marked<'a> {
             return Asked::Over;
         }
         self.left -= 1;
-        Asked::Picked(0)
+        Asked::Picked(HART)
     }
 
     fn hand_out(&mut self, _hart: u32) -> Option<&'a AtomicU64> {
@@ -52,7 +55,7 @@ impl<'a> Crew for Marked<'a> {
     }
 
     fn hart_of(_job: &&'a AtomicU64) -> u32 {
-        0
+        HART
     }
 
     fn work(job: &'a AtomicU64) -> bool {
@@ -71,7 +74,7 @@ impl<'a> Crew for Marked<'a> {
     }
 }
 
-// Counts how often it is told, and how often before as many jobs were worked.
+// Counts how often it is told of this hart by worker 0, and how often before as many jobs were worked.
 #[derive(Drop)]
 struct LookingGate<'a> {
     worked: &'a AtomicU64,
@@ -80,7 +83,10 @@ struct LookingGate<'a> {
 }
 
 impl<'a> Gate for LookingGate<'a> {
-    fn slice_ready(&self, _worker: u32, _hart: u32) {
+    fn slice_ready(&self, worker: u32, hart: u32) {
+        if worker != 0 || hart != HART {
+            return;
+        }
         let before = self.told.fetch_add(1, Ordering::SeqCst);
         if self.worked.load(Ordering::SeqCst) <= before {
             self.early.fetch_add(1, Ordering::SeqCst);
