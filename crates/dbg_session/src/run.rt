@@ -5,7 +5,7 @@ ghost use Rattle.elf_checks.specs.declared.fault.ElfFault.{ElfFault};
 ghost use Rattle.session_parts.specs.Early.{Early};
 ghost use Rattle.session_parts.specs.Words.{AreRefused, checked_words};
 ghost use Rattle.session_parts.specs.Headline.{Ends, Good, IsFine, IsWords, IsFile, Refused};
-ghost use Rattle.session_check.specs.RunEnds.{GoodCheck, IsJudged, IsRecorded, RunEnds};
+ghost use Rattle.session_check.specs.RunEnds.{GoodCheck, IsJudged, IsRecorded, RefusedCheck, RunEnds};
 
 use dbg_engine::Engine;
 use dbg_model::Opening;
@@ -114,6 +114,7 @@ pub fn debug_run<R: Threads + Wait + Sync, W: World + Send, G: Gate + Sync>(
     // Refused words and a refused file are answered, unless memory runs out.
     ensures words { AreRefused (W.told result.world).words → IsWords result.status }
     ensures file { (f : ElfFault) → Refused (W.told result.world) f → IsFile f result.status }
+    ensures checked_file { (f : ElfFault) → RefusedCheck (W.told result.world) f → IsFile f result.status }
 
     // With accepted words, an accepted file and no fault it runs to its end, unless memory runs out.
     ensures complete { Good (W.told result.world) → IsFine result.status }

@@ -4,20 +4,24 @@ use Rattle.std.specs.Prelude.{◌⊎◌, Option, Some, None, IfSome, IsSome}
 use Rattle.std.specs.Option.{option_map}
 use mathlib.Core.Logic.{inl, inr}
 use Rattle.dbg_traits.specs.Told.{Told}
+use Rattle.dbg_model.proofs.Options.{same_some}
 use Rattle.dbg_traits.specs.declared.settings.Settings.{Settings}
 use Rattle.elf_checks.specs.declared.fault.ElfFault.{ElfFault}
+use Rattle.elf32_read.specs.Program.{Program}
 use Rattle.elf_checks.specs.Reading as reading
+use Rattle.elf_checks.specs.Reading.{IsImage}
 use Rattle.elf_checks.specs.Checks.{fault_of}
 use Rattle.engine_parts.specs.declared.ending.Closed.{Closed}
 use Rattle.dbg_words.specs.Words.{Words, Asked, session, generated, checked}
 use Rattle.mi_values.specs.Records.{lines_bytes}
 use Rattle.mi_reports.specs.Said.{said, said_lines}
 use Rattle.session_log.specs.LogText.{Transcript}
-use Rattle.session_parts.specs.Words.{served, served_words, file_checked, checked_words, AreRefused}
+use Rattle.session_parts.specs.Words.{served, served_words, file_checked, checked_words, AreRefused, IsWhole}
+use Rattle.session_parts.specs.Ties.{IsFileOf}
 use Rattle.session_parts.specs.declared.file.Served.{Served}
 use Rattle.session_parts.specs.declared.file.Source.{Source}
 use Rattle.session_parts.specs.declared.file.Source.TheVariants.{File, Generated}
-use Rattle.session_parts.specs.Early.{Early}
+use Rattle.session_parts.specs.Early.{Early, IsPart}
 use Rattle.session_parts.specs.Headline.{Ends, Headline, Good, IsFine, IsWords, IsFile, Refused, Prints}
 use Rattle.session_parts.specs.Logged.{Logs, Tells}
 use Rattle.session_parts.specs.Over.{is_logged}
@@ -26,7 +30,7 @@ use Rattle.session_parts.specs.declared.status.Status.TheVariants as status
 use Rattle.session_parts.proofs.Heading.{file_of, fine_of, words_of}
 use Rattle.session_check.specs.declared.finding.Finding.TheVariants.{Accepted}
 use Rattle.session_check.specs.Findings.{Finds, IsRecord, most_input}
-use Rattle.session_check.specs.RunEnds.{GoodCheck, IsCheck, IsJudged, IsRecorded, RunEnds, asks_log}
+use Rattle.session_check.specs.RunEnds.{GoodCheck, IsCheck, IsJudged, IsRecorded, RefusedCheck, RunEnds, asks_log}
 use Rattle.session_check.proofs.Written.{written_record}
 
 pub session_ends : (s : Status) (t : Told) (c : Option Closed) → Ends s t c → RunEnds s t c
@@ -101,6 +105,52 @@ pub judged_end : (s : Status) (t : Told) (c : Option Closed) → RunEnds s t c �
 judged_end s t (Some c) h g = absurd (not_read t g _ h.opened.asked)
 judged_end s t None (inl h) g = judged_early s t h g
 judged_end s t None (inr h) g = judged_check s t h g
+
+-- ---- a check whose file is refused
+
+no_image : (t : Told) (f : ElfFault) (name : List ℕ) (p : Program) → RefusedCheck t f → IsFileOf t name p → ⊥
+no_image t f name p r file =
+    let image : IsImage r.bytes p = told_bytes t.file_taken r.bytes (λ b. IsImage b p) r.taken file.image in
+    clash (fault_of r.bytes) f image.accepted r.fault
+
+no_part : (t : Told) → IsPart t → IsWhole t → ⊥
+no_part t part (inl ended) = let e : false ≡ true = sym part.ended ∙ ended in cc
+no_part t part (inr most) = let l = part.length in omega (arith, most)
+
+unserved_check : (t : Told) (f : ElfFault) (r : RefusedCheck t f) (a : Served) → served_words t.words ≡ Some a → ⊥
+unserved_check t f r a some = clash (served_words t.words) a (no_session (Words t.words) r.name r.words) some
+
+refused_early : (s : Status) (t : Told) (f : ElfFault) → Early s t → RefusedCheck t f → IsFile f s
+refused_early status.Words t f h r = absurd (clash (checked_words t.words) r.name (ap file_checked h.2) r.words)
+refused_early (status.File g) t f h r = absurd (unserved_check t f r _ h.1.read.words)
+refused_early status.ReadFault t f h r = absurd (unserved_check t f r _ h.1.words)
+refused_early status.NoMemory t f h r = tt
+refused_early status.Done t f h r = absurd h
+refused_early status.Budget t f h r = absurd h
+refused_early status.History t f h r = absurd h
+refused_early status.WriteFault t f h r = absurd h
+refused_early status.Rejected t f h r = absurd h
+
+refused_check : (s : Status) (t : Told) (f : ElfFault) → IsCheck s t → RefusedCheck t f → IsFile f s
+refused_check status.Done t f h r = absurd (no_image t f h.name _ r h.checks.1.judged.file)
+refused_check status.Rejected t f h r = absurd (no_image t f h.name _ r h.checks.2.judged.file)
+refused_check status.NoMemory t f h r = tt
+refused_check (status.File g) t f h r =
+    let is : fault_of r.bytes ≡ Some g = told_bytes t.file_taken r.bytes (λ b. reading.Refused b g) r.taken h.checks.1.fault in
+    same_some g f (sym is ∙ r.fault)
+refused_check status.ReadFault t f h r = elim h.checks.2 [
+  | inl e ↦ absurd (no_part t e.part r.whole)
+  | inr e ↦ absurd (no_image t f h.name _ r e.file)
+]
+refused_check status.WriteFault t f h r = absurd (no_image t f h.name _ r h.checks.1.judged.file)
+refused_check status.Words t f h r = absurd h.checks
+refused_check status.Budget t f h r = absurd h.checks
+refused_check status.History t f h r = absurd h.checks
+
+pub refused_end : (s : Status) (t : Told) (c : Option Closed) (f : ElfFault) → RunEnds s t c → RefusedCheck t f → IsFile f s
+refused_end s t (Some c) f h r = absurd (unserved_check t f r _ h.opened.asked)
+refused_end s t None f (inl h) r = refused_early s t f h r
+refused_end s t None f (inr h) r = refused_check s t f h r
 
 -- ---- a session with its log
 

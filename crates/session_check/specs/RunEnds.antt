@@ -2,9 +2,11 @@
 use Rattle.std.specs.Prelude.{◌≡◌, ◌⊎◌, ◌≤◌, Bool, true, false, List, ℕ, length, Option, Some, None, IfSome}
 use Rattle.dbg_traits.specs.Told.{Told}
 use Rattle.elf32_read.specs.Program.{Program}
+use Rattle.elf_checks.specs.Reading as reading
 use Rattle.elf_checks.specs.Reading.{IsImage}
+use Rattle.elf_checks.specs.declared.fault.ElfFault.{ElfFault}
 use Rattle.engine_parts.specs.declared.ending.Closed.{Closed}
-use Rattle.session_parts.specs.Words.{checked_words, served_words}
+use Rattle.session_parts.specs.Words.{IsWhole, checked_words, served_words}
 use Rattle.session_parts.specs.declared.file.Served.{Served}
 use Rattle.session_parts.specs.Early.{Early}
 use Rattle.session_parts.specs.Headline.{Headline}
@@ -35,6 +37,15 @@ pub record GoodCheck (t : Told) : Type 0 where
   pub taken : t.file_taken ≡ Some bytes
   pub program : Program
   pub image : IsImage bytes program
+
+-- the words ask for a check, and the file was read whole and has this fault
+pub record RefusedCheck (t : Told) (f : ElfFault) : Type 0 where
+  pub name : List ℕ
+  pub words : checked_words t.words ≡ Some name
+  pub whole : IsWhole t
+  pub bytes : List ℕ
+  pub taken : t.file_taken ≡ Some bytes
+  pub fault : reading.Refused bytes f
 
 -- the input was judged, unless memory ran out
 abbrev pub IsJudged : Status → Type 0

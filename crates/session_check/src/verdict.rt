@@ -1,6 +1,7 @@
 //! The line of a verdict.
 
-ghost use Rattle.std.specs.Prelude.{◌≡◌, ◌++◌, OnOk};
+ghost use Rattle.std.specs.Prelude.{◌≡◌, ◌++◌, OnErr, OnOk};
+ghost use Rattle.mi_text.specs.Keeps.{Keeps};
 ghost use Rattle.session_check.specs.VerdictLine.{accepted_text, fault_name, rejected_text, verdict_line};
 
 use crate::finding::Finding;
@@ -21,7 +22,8 @@ fn fault_name(kind: FaultKind) -> &'static str
 
 // Appends the line of a rejection of this kind at this place.
 fn push_rejected(kind: &str, place: u64, into: &mut Vec<u8>) -> Result<(), NoMemory>
-    ensures { OnOk result (into.new.items ≡ into.old.items ++ rejected_text kind.now place) }
+    ensures written { OnOk result (into.new.items ≡ into.old.items ++ rejected_text kind.now place) }
+    ensures kept { Keeps into.old.items into.new.items }
 {
     into.extend_from_slice(b"check rejected ")?;
     into.extend_from_slice(kind.as_bytes())?;
@@ -33,7 +35,8 @@ fn push_rejected(kind: &str, place: u64, into: &mut Vec<u8>) -> Result<(), NoMem
 
 // Appends the line of so many entries that were accepted.
 fn push_accepted(entries: u64, into: &mut Vec<u8>) -> Result<(), NoMemory>
-    ensures { OnOk result (into.new.items ≡ into.old.items ++ accepted_text entries) }
+    ensures written { OnOk result (into.new.items ≡ into.old.items ++ accepted_text entries) }
+    ensures kept { Keeps into.old.items into.new.items }
 {
     into.extend_from_slice(b"check accepted ")?;
     write_decimal(entries, into)?;
@@ -41,10 +44,11 @@ fn push_accepted(entries: u64, into: &mut Vec<u8>) -> Result<(), NoMemory>
     Ok(())
 }
 
-/// Puts the line of what was found at the end. Out of memory, the one error, the buffer's end is open.
+// Appends the line of what was found.
 #[tactic(auto, unfolding(crate::specs::VerdictLine::verdict_line))]
-pub fn verdict_line(found: Finding, into: &mut Vec<u8>) -> Result<(), NoMemory>
-    ensures { OnOk result (into.new.items ≡ into.old.items ++ verdict_line found) }
+fn push_verdict(found: Finding, into: &mut Vec<u8>) -> Result<(), NoMemory>
+    ensures written { OnOk result (into.new.items ≡ into.old.items ++ verdict_line found) }
+    ensures kept { Keeps into.old.items into.new.items }
 {
     match found {
         Finding::Accepted { entries } => push_accepted(entries, into),
@@ -53,4 +57,18 @@ pub fn verdict_line(found: Finding, into: &mut Vec<u8>) -> Result<(), NoMemory>
         Finding::Unlawful { entry } => push_rejected("Unlawful", entry, into),
         Finding::Differs { place } => push_rejected("Differs", place as u64, into),
     }
+}
+
+/// Puts the line of what was found at the end. Out of memory, the one error, the buffer is as before.
+#[tactic(auto, using(mi_text::proofs::Kept::keeps_front))]
+pub fn verdict_line(found: Finding, into: &mut Vec<u8>) -> Result<(), NoMemory>
+    ensures written { OnOk result (into.new.items ≡ into.old.items ++ verdict_line found) }
+    ensures unchanged { OnErr result (into.new.items ≡ into.old.items) }
+{
+    let before = into.len();
+    if push_verdict(found, into).is_err() {
+        into.truncate(before);
+        return Err(NoMemory);
+    }
+    Ok(())
 }

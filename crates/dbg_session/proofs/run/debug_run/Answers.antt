@@ -1,4 +1,4 @@
-use Rattle.session_check.proofs.Ends.{file_end, recorded_end, session_ends}
+use Rattle.session_check.proofs.Ends.{file_end, recorded_end, refused_end, session_ends}
 use Rattle.dbg_session.proofs.run.debug_run.Goals as goal
 
 pub returns-in-Err-clause-recorded : goal.returns-in-Err-clause-recorded
@@ -11,6 +11,12 @@ returns-in-Ok-begin-clause-file g c =
     let e = c.run_session.result in
     let t = g.W.World.told e.world in
     λ f r. file_end e.status t e.closed f (session_ends e.status t e.closed c.run_session.ensures) r
+
+pub returns-in-Ok-begin-clause-checked_file : goal.returns-in-Ok-begin-clause-checked_file
+returns-in-Ok-begin-clause-checked_file g c =
+    let e = c.run_session.result in
+    let t = g.W.World.told e.world in
+    λ f r. refused_end e.status t e.closed f (session_ends e.status t e.closed c.run_session.ensures) r
 
 pub returns-in-Ok-begin-clause-recorded : goal.returns-in-Ok-begin-clause-recorded
 returns-in-Ok-begin-clause-recorded g c =

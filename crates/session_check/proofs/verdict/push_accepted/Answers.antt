@@ -3,8 +3,8 @@ use Rattle.std.specs.Prelude.{codes}
 use Rattle.std.specs.Fmt.{decimal}
 use Rattle.session_check.proofs.verdict.push_accepted.Goals as goal
 
-pub returns : goal.returns
-returns c =
+pub returns-clause-written : goal.returns-clause-written
+returns-clause-written c =
     let word = codes "check accepted " in
     let behind = decimal c.args.entries in
     c.in_ok-push.ensures.items
