@@ -10,5 +10,5 @@ returns-clause-agrees g c =
     let first = c.new-hearing.ensures in
     let piece = c.opening.new.into.items in
     let h : Hearing = record c.new-hearing.result { piece = c.opening.new.into } in
-    let said : piece ≡ v.opening o = c.in_ok-opening.ensures ∙ ap (λ (l : List ℕ). l ++ v.opening o) first.piece in
+    let said : piece ≡ v.opening o = c.in_ok-opening.ensures.written ∙ ap (λ (l : List ℕ). l ++ v.opening o) first.piece in
     opened v o piece h c.hear.new.self first.at first.same said c.hear.ensures.hears
