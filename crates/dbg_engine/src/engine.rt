@@ -270,6 +270,7 @@ impl Engine {
     /// No memory for them.
     pub fn threads(&self, into: &mut Vec<ThreadView>) -> Result<(), AllocError>
         ensures views { OnOk result (into.new.items ≡ own_views self.now.machine.cores self.now.minds) }
+        ensures unchanged { OnErr result (into.new.items ≡ into.old.items) }
         ensures facts { Facts self.now }
     {
         views(self.machine.cores(), self.minds.as_slice(), into)

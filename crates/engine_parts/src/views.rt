@@ -1,5 +1,5 @@
 // What a command may see of the harts.
-ghost use Rattle.std.specs.Prelude.{◌≡◌, OnOk};
+ghost use Rattle.std.specs.Prelude.{◌≡◌, OnErr, OnOk};
 ghost use Rattle.engine_parts.specs.Viewing.{own_view, own_views};
 
 use crate::{Activity, Mind};
@@ -17,10 +17,13 @@ fn view(core: &Core, mind: Mind) -> ThreadView
     }
 }
 
-/// What a command may see of the harts, of those that are stopped their registers, in the place of what stood in `into`.
+/// What a command may see of the harts, of those that are stopped their registers, in the place of what stood in `into`. That stays
+/// where there is no memory, the one error.
 pub fn views(cores: &[Core], minds: &[Mind], into: &mut Vec<ThreadView>) -> Result<(), AllocError>
-    ensures { OnOk result (into.new.items ≡ own_views cores.now minds.now) }
+    ensures views { OnOk result (into.new.items ≡ own_views cores.now minds.now) }
+    ensures unchanged { OnErr result (into.new.items ≡ into.old.items) }
 {
+    into.reserve(cores.len())?;
     into.clear();
     let mut cores = cores;
     let mut minds = minds;
@@ -28,7 +31,7 @@ pub fn views(cores: &[Core], minds: &[Mind], into: &mut Vec<ThreadView>) -> Resu
         cores.split_first(),
         minds.split_first(),
     ) {
-        into.push(view(core, *mind))?;
+        into.push_reserved(view(core, *mind));
         cores = later_cores;
         minds = later_minds;
     }
