@@ -4,3 +4,5 @@ pub mod Answering
 pub mod Sending
 -- A hart's job is worked at once while jobs of other harts are out.
 pub mod Asking
+-- What became of a line is what the line did.
+pub mod Carrying

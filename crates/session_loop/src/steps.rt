@@ -1,7 +1,12 @@
 // A turn of a hart and a line of input, over the parts of a session.
 // Where nothing is hot, what is large is dropped by a call of `drop`: the proof then goes through its parts once, not at each such place.
-ghost use Rattle.std.specs.Prelude.{◌≡◌, ◌<◌, ◌≤◌, ◌+◌, ◌++◌, ◌&&◌, length, OnOk, MatchResult, false, true};
-ghost use Rattle.dbg_model.specs.Lawful.{may_go};
+ghost use Rattle.std.specs.Prelude.{◌≡◌, ◌<◌, ◌≤◌, ◌+◌, ◌++◌, ◌&&◌, length, OnOk, MatchResult, true, false};
+ghost use Rattle.mi_commands.specs.Gives.{Commands};
+ghost use Rattle.dbg_model.specs.Lawful.{may_do, may_go};
+ghost use Rattle.dbg_model.specs.State.{any_runs};
+ghost use Rattle.dbg_model.specs.Reply.{answer_of, is_wait};
+ghost use Rattle.dbg_answers.specs.Answer.{line_answer_of};
+ghost use Rattle.session_loop.specs.Carrying.{Carries, done_of};
 ghost use Rattle.dbg_model.specs.declared.reply.Reply.{Reply};
 ghost use Rattle.dbg_model.specs.declared.shown.Shown.TheVariants.{Answer};
 ghost use Rattle.engine_parts.specs.Seen.{seen};
@@ -13,14 +18,15 @@ ghost use Rattle.mi_reports.specs.Replies.{reply_lines};
 ghost use Rattle.session_parts.specs.Puts.{PutsLines};
 ghost use Rattle.session_parts.specs.Reported.{AreMoved, Notes, NotesLine, is_last, move_lines, shown_lines};
 ghost use Rattle.session_parts.specs.Stage.{most_added, moves_at, stage_of, work_of};
-ghost use Rattle.session_parts.specs.Steps.{IsMove, Turns, Goes, Does, Answers};
+ghost use Rattle.session_parts.specs.Steps.{IsMove, Turns, Goes, Does};
 ghost use Rattle.session_parts.specs.declared.turn.Turn.TheVariants as turn;
 
-use crate::lines::{command, must_wait};
-use dbg_answers::read_line;
+use crate::lines::{answer_any, do_answered, must_wait};
+use dbg_answers::{LineAnswer, read_line};
 use dbg_engine::{Engine, Move, SPARE, Turned};
 use dbg_model::{Entry, Reply, Shown, ThreadView};
 use dbg_traits::{NoMemory, World};
+use mi_commands::{CommandLine, Refusal};
 use mi_input::next_line;
 use mi_reports::report;
 use session_parts::{Done, Turn, put_all, put_entry};
@@ -138,29 +144,13 @@ pub fn turn_once<W: World>(
     }
 }
 
-// Does a line, and answers it; it isn't done where it waits while a hart runs, and then has no reply.
-fn carry_out(
-    alloc: Global,
-    engine: &mut Engine,
-    line: &[u8],
-    threads: &mut Vec<ThreadView>,
-) -> Result<Option<Reply>, NoMemory>
-    requires may { may_go engine.old.opening (seen engine.old) ≡ true }
-    requires facts { Facts engine.old }
-    ensures facts { Facts engine.new }
-    ensures answers { MatchResult result (λ reply. Answers line.now reply engine.old engine.new) (λ _. engine.new ≡ engine.old) }
-{
-    let Ok(read) = read_line(alloc, line) else {
-        return Err(NoMemory);
-    };
-    if must_wait(engine, line, &read) {
-        drop(read);
-        return Ok(None);
-    }
-    match command(alloc, engine, line, read, threads) {
-        Ok(reply) => Ok(Some(reply)),
-        Err(NoMemory) => Err(NoMemory),
-    }
+// What became of a line.
+#[derive(Clone, Copy)]
+enum Carried {
+    // It was done, and its reply put, or a put of it failed; or there was no memory for it.
+    Did(Result<bool, NoMemory>),
+    Waits,
+    NoMemory,
 }
 
 // The entry of a line that was done, before which so many entries were noted.
@@ -192,6 +182,88 @@ fn put_done<W: World>(
     put_entry(world, done, &Shown::Answer { reply }, lines)
 }
 
+// Does a line to which this is answered, and puts its reply.
+fn put_answered<W: World>(
+    world: &mut W,
+    engine: &mut Engine,
+    line: &[u8],
+    answered: LineAnswer,
+    lines: &mut Vec<u8>,
+) -> Carried
+    requires may { may_do engine.old.opening (seen engine.old) line.now ≡ true }
+    requires facts { Facts engine.old }
+    requires ready { (any_runs (seen engine.old).harts && is_wait line.now) ≡ false }
+    requires answered { line_answer_of answered ≡ answer_of engine.old.opening (seen engine.old) line.now }
+    ensures facts { Facts engine.new }
+    ensures carries { Carries W.told result line.now engine.old engine.new world.old world.new }
+{
+    let before = engine.noted();
+    match do_answered(engine, line, answered) {
+        Ok(reply) => Carried::Did(put_done(world, engine, before, reply, lines)),
+        Err(NoMemory) => Carried::NoMemory,
+    }
+}
+
+// Does a line that doesn't wait, answers it, and puts its reply. What is large goes from hand to hand, and never back.
+fn answer_and_put<W: World>(
+    alloc: Global,
+    world: &mut W,
+    engine: &mut Engine,
+    line: &[u8],
+    read: Result<CommandLine, Refusal>,
+    threads: &mut Vec<ThreadView>,
+    lines: &mut Vec<u8>,
+) -> Carried
+    requires may { may_do engine.old.opening (seen engine.old) line.now ≡ true }
+    requires facts { Facts engine.old }
+    requires ready { (any_runs (seen engine.old).harts && is_wait line.now) ≡ false }
+    requires read { Commands line.now read }
+    ensures facts { Facts engine.new }
+    ensures carries { Carries W.told result line.now engine.old engine.new world.old world.new }
+{
+    match answer_any(alloc, engine, line, read, threads) {
+        Ok(answered) => put_answered(world, engine, line, answered, lines),
+        Err(NoMemory) => Carried::NoMemory,
+    }
+}
+
+// The same of any line; it isn't done where it waits while a hart runs.
+fn carry_out<W: World>(
+    alloc: Global,
+    world: &mut W,
+    engine: &mut Engine,
+    line: &[u8],
+    threads: &mut Vec<ThreadView>,
+    lines: &mut Vec<u8>,
+) -> Carried
+    requires may { may_go engine.old.opening (seen engine.old) ≡ true }
+    requires facts { Facts engine.old }
+    ensures facts { Facts engine.new }
+    ensures carries { Carries W.told result line.now engine.old engine.new world.old world.new }
+{
+    let Ok(read) = read_line(alloc, line) else {
+        return Carried::NoMemory;
+    };
+    if must_wait(engine, line, &read) {
+        drop(read);
+        return Carried::Waits;
+    }
+    answer_and_put(alloc, world, engine, line, read, threads, lines)
+}
+
+// What a line did, behind which the place is `next`.
+fn done_of(carried: Carried, next: usize) -> Done
+    ensures { result ≡ done_of carried next }
+{
+    match carried {
+        Carried::Did(Ok(true)) => Done::Done(next),
+        Carried::Did(Ok(false)) => Done::Unput(next),
+        Carried::Did(Err(NoMemory)) => Done::Unsaid(next),
+        Carried::Waits => Done::Waits,
+        Carried::NoMemory => Done::NoMemory,
+    }
+}
+
 /// The next line of the rest of the input, with its reply, in a session that may go on. What it sees of the harts goes through
 /// the memory of `threads`, and its reply through that of `lines`.
 #[inline(never)]
@@ -214,14 +286,6 @@ pub fn line_once<W: World>(
     let Some((text, next)) = next_line(rest, ended) else {
         return Done::Nothing;
     };
-    let before = engine.noted();
-    match carry_out(alloc, engine, &rest[..text], threads) {
-        Ok(Some(reply)) => match put_done(world, engine, before, reply, lines) {
-            Ok(true) => Done::Done(next),
-            Ok(false) => Done::Unput(next),
-            Err(NoMemory) => Done::Unsaid(next),
-        },
-        Ok(None) => Done::Waits,
-        Err(NoMemory) => Done::NoMemory,
-    }
+    let carried = carry_out(alloc, world, engine, &rest[..text], threads, lines);
+    done_of(carried, next)
 }
