@@ -1,6 +1,6 @@
 -- What became of a line is what the line did.
 use Rattle.std.proofs.Common.{◌≡◌, ◌<◌, ◌≤◌, ◌+◌, ℕ, List, length, ap, sym, subst, arith}
-use Rattle.std.specs.Prelude.{true, false, Some, Ok, Err}
+use Rattle.std.specs.Prelude.{Bool, true, false, Some, Ok, Err}
 use Rattle.dbg_traits.specs.Told.{Told}
 use Rattle.dbg_model.specs.declared.reply.Reply.{Reply}
 use Rattle.engine_parts.specs.Facts.{Facts}
@@ -22,12 +22,12 @@ same_work e s is =
     subst (λ (t : Engine). work_of (stage_of t) ≤ work_of (stage_of e) + 832) (sym is) least
 
 pub carried_work : {W : Type 0} (told : W → Told) (k : Carried) (line : List ℕ) (e s : Engine) (w x : W) → Facts e → Facts s → Carries told k line e s w x → work_of (stage_of s) ≤ work_of (stage_of e) + 832
-carried_work told (carried.Did put) line e s w x f g m = (does_say e s line m.0 f g m.1.0.1).work
+carried_work told (carried.Did put) line e s w x f g m = (does_say e s line m.0 f g m.1.1).work
 carried_work told carried.Waits line e s w x f g m = same_work e s m.0.1
 carried_work told carried.NoMemory line e s w x f g m = same_work e s m.0
 
 pub carried_opening : {W : Type 0} (told : W → Told) (k : Carried) (line : List ℕ) (e s : Engine) (w x : W) → Facts e → Facts s → Carries told k line e s w x → s.opening ≡ e.opening
-carried_opening told (carried.Did put) line e s w x f g m = (does_say e s line m.0 f g m.1.0.1).opening
+carried_opening told (carried.Did put) line e s w x f g m = (does_say e s line m.0 f g m.1.1).opening
 carried_opening told carried.Waits line e s w x f g m = ap (λ (r : Engine). r.opening) m.0.1
 carried_opening told carried.NoMemory line e s w x f g m = ap (λ (r : Engine). r.opening) m.0
 
@@ -39,16 +39,16 @@ carried_line ended rest line next e s reply f g is_next some within a = does_lin
 pub carried_does : {W : Type 0} (told : W → Told) (k : Carried) (ended : Bool) (rest line : List ℕ) (next : ℕ) (e s : Engine) (w x : W) → Facts e → Facts s → IsNext ended rest line next → 0 < next → next ≤ length rest
     → Carries told k line e s w x → Does (done_of k next) ended rest (told w) (told x) (stage_of e) (stage_of s)
 carried_does told (carried.Did (Ok true)) ended rest line next e s w x f g is_next some within m = (
-  says_put true (told w) (told x) (stage_of e) (stage_of s) (reply_lines m.0) (does_say e s line m.0 f g m.1.0.1).said m.1.1,
-  carried_line ended rest line next e s m.0 f g is_next some within m.1.0,
+  says_put true (told w) (told x) (stage_of e) (stage_of s) (reply_lines m.0) (does_say e s line m.0 f g m.1.1).said m.2,
+  carried_line ended rest line next e s m.0 f g is_next some within m.1,
 )
 carried_does told (carried.Did (Ok false)) ended rest line next e s w x f g is_next some within m = (
-  says_put false (told w) (told x) (stage_of e) (stage_of s) (reply_lines m.0) (does_say e s line m.0 f g m.1.0.1).said m.1.1,
-  carried_line ended rest line next e s m.0 f g is_next some within m.1.0,
+  says_put false (told w) (told x) (stage_of e) (stage_of s) (reply_lines m.0) (does_say e s line m.0 f g m.1.1).said m.2,
+  carried_line ended rest line next e s m.0 f g is_next some within m.1,
 )
 carried_does {W} told (carried.Did (Err _)) ended rest line next e s w x f g is_next some within m = (
-  subst (λ (y : W). Keeps (told w) (told y) (stage_of e) (stage_of s)) (sym m.1.1) (keeps (told w) (stage_of e) (stage_of s) (reply_lines m.0) (does_say e s line m.0 f g m.1.0.1).said),
-  carried_line ended rest line next e s m.0 f g is_next some within m.1.0,
+  subst (λ (y : W). Keeps (told w) (told y) (stage_of e) (stage_of s)) (sym m.2) (keeps (told w) (stage_of e) (stage_of s) (reply_lines m.0) (does_say e s line m.0 f g m.1.1).said),
+  carried_line ended rest line next e s m.0 f g is_next some within m.1,
 )
 carried_does told carried.Waits ended rest line next e s w x f g is_next some within m =
     let d = must_wait e ended rest line next is_next (sym m.0.0) in
