@@ -7,7 +7,7 @@ use Rattle.engine_parts.specs.Facts.{Facts}
 use Rattle.engine_parts.specs.Seen.{Engine}
 use Rattle.mi_input.specs.Lines.{IsNext}
 use Rattle.mi_reports.specs.Replies.{reply_lines}
-use Rattle.session_parts.specs.Stage.{stage_of, work_of}
+use Rattle.session_parts.specs.Stage.{most_added, stage_of, work_of}
 use Rattle.session_parts.specs.Steps.{Answers, Does, DoesLine, Keeps}
 use Rattle.session_parts.proofs.Saying.{does_say}
 use Rattle.session_parts.proofs.Doing.{does_line, keeps, says_put, must_wait, stands}
@@ -16,12 +16,12 @@ use Rattle.session_loop.specs.declared.steps.Carried.{Carried}
 use Rattle.session_loop.specs.declared.steps.Carried.TheVariants as carried
 
 -- an engine that didn't change has as much left to do
-pub same_work : (e s : Engine) → s ≡ e → work_of (stage_of s) ≤ work_of (stage_of e) + 832
+pub same_work : (e s : Engine) → s ≡ e → work_of (stage_of s) ≤ work_of (stage_of e) + most_added
 same_work e s is =
-    let least : work_of (stage_of e) ≤ work_of (stage_of e) + 832 = omega arith in
-    subst (λ (t : Engine). work_of (stage_of t) ≤ work_of (stage_of e) + 832) (sym is) least
+    let least : work_of (stage_of e) ≤ work_of (stage_of e) + most_added = omega arith in
+    subst (λ (t : Engine). work_of (stage_of t) ≤ work_of (stage_of e) + most_added) (sym is) least
 
-pub carried_work : {W : Type 0} (told : W → Told) (k : Carried) (line : List ℕ) (e s : Engine) (w x : W) → Facts e → Facts s → Carries told k line e s w x → work_of (stage_of s) ≤ work_of (stage_of e) + 832
+pub carried_work : {W : Type 0} (told : W → Told) (k : Carried) (line : List ℕ) (e s : Engine) (w x : W) → Facts e → Facts s → Carries told k line e s w x → work_of (stage_of s) ≤ work_of (stage_of e) + most_added
 carried_work told (carried.Did put) line e s w x f g m = (does_say e s line m.0 f g m.1.1).work
 carried_work told carried.Waits line e s w x f g m = same_work e s m.0.1
 carried_work told carried.NoMemory line e s w x f g m = same_work e s m.0

@@ -115,7 +115,6 @@ fn answer_seeing(
     threads: &mut Vec<ThreadView>,
 ) -> Result<LineAnswer, NoMemory>
     requires room { engine.now.noted < history }
-    requires facts { Facts engine.now }
     requires read { Commands line.now read }
     ensures { IfOk result (λ a. line_answer_of a ≡ answer_of engine.now.opening (seen engine.now) line.now) }
 {
@@ -140,7 +139,6 @@ pub fn answer_any(
     threads: &mut Vec<ThreadView>,
 ) -> Result<LineAnswer, NoMemory>
     requires room { engine.now.noted < history }
-    requires facts { Facts engine.now }
     requires read { Commands line.now read }
     ensures { IfOk result (λ a. line_answer_of a ≡ answer_of engine.now.opening (seen engine.now) line.now) }
 {
