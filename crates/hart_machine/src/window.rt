@@ -1,5 +1,6 @@
 // Windows of stored words, and their operations.
 ghost use Rattle.std.specs.Prelude.{◌≡◌, ◌≤◌, [], length};
+ghost use Rattle.rv_exec.specs.declared.operation.Operation.TheVariants.{Break};
 ghost use Rattle.reg_slices.specs.Slices.{AreDecoded};
 ghost use Rattle.hart_machine.specs.Slices as slices;
 
@@ -39,11 +40,19 @@ pub fn operations_in_place(text: &TextWords, at: u32) -> &[Operation]
     &run[..count]
 }
 
+// What stands behind a window. It is had by a call, so that room is filled by whole values.
+#[inline(never)]
+fn end_of_window() -> Operation
+    ensures { result ≡ Break }
+{
+    Operation::Break
+}
+
 /// The operations of the window at an address, and that of EBREAK behind the last.
 pub fn window_operations(text: &TextWords, at: u32) -> [Operation; MOST_WORDS]
     ensures { AreDecoded (slices.window text.now at) result }
 {
-    let mut operations = [Operation::Break; MOST_WORDS];
+    let mut operations = [end_of_window(); MOST_WORDS];
     let window = operations_in_place(text, at);
     operations[..window.len()].copy_from_slice(window);
     operations
